@@ -13,8 +13,9 @@ A crate with two edits or more is proved once more, as what they begin with: tha
 check that the base is still proved. One kit does this in the first of its edits, and there the column `Edits, s` has it.
 
 A second table has the twenty functions and files of lemmas whose proofs took longest, each with its dearest stage, and a third one
-the stages of all, by the moments at which the compiler left each module in its folder. Where it proves some beside each other
-(`--jobs`), these are less than they take alone. The stage `Lts` follows a function's ways and what is dropped on each, `Proof` has
+the stages of all, by the moments at which the compiler left each module in its folder, or among what is kept of the proof (`rt check`,
+`rt lib`). Where it proves some beside each other (`--jobs`), these are less than they take alone. The stage `Lts` follows a function's
+ways and what is dropped on each, `Proof` has
 the tactics at goals that nothing answers, `Tie` binds them to the code; `bench/GATE.md` says what makes them dear.
 """
 import os
@@ -34,6 +35,8 @@ PAUSE = 0.2
 TICKS = os.sysconf("SC_CLK_TCK")
 KINDS = ("proof", "tests", "base", "edits", "programs")
 MOST_OWNERS = 20
+# At each of so many looks the modules are looked at that are kept with a proof: they stay there.
+KEPT_LOOKS = 5
 # Where a proof leaves the modules that are done, by the number of its process; and what it makes for each function.
 DONE = re.compile(r"rattle-logic-built-locked-(\d+)-\d+$")
 STAGES = {"Answers", "Code", "Given", "Goals", "Invariants", "Key", "Kinds", "Layout", "Lts", "Met", "Mir", "Named", "Proof", "Reads",
@@ -139,12 +142,28 @@ class Costs:
         return sums
 
 
+def kept_by(number: int) -> list[os.DirEntry[str]]:
+    """The folders in which a process keeps what it has proved, by its words."""
+    try:
+        with open(f"/proc/{number}/cmdline", encoding="utf-8", errors="replace") as file:
+            words = file.read().split("\0")
+        if "--incremental" not in words[:-1]:
+            return []
+        kept = os.path.join(os.readlink(f"/proc/{number}/cwd"), words[words.index("--incremental") + 1])
+        return [folder for folder in os.scandir(kept) if folder.is_dir()]
+    except OSError:
+        return []
+
+
 class Modules:
     """When each module of each proof was done."""
 
     def __init__(self) -> None:
+        self.begun, self.looks = time.time(), 0
         # What the proof is of that leaves its modules in a folder, by the folder's name; None where that isn't shown.
         self.proved: dict[str, Optional[str]] = {}
+        # The processes with such a folder. What they keep besides is the same.
+        self.with_folder: set[int] = set()
         # The moments of its modules, by the folder's name and what the proof is of.
         self.ends: defaultdict[tuple[str, str], dict[str, float]] = defaultdict(dict)
 
@@ -153,15 +172,26 @@ class Modules:
             named = DONE.match(folder.name)
             if not named or int(named[1]) not in numbers:
                 continue
+            self.with_folder.add(int(named[1]))
             if folder.name not in self.proved:
                 work = work_of(int(named[1]))
                 if not work:
                     continue
-                crate, kind = work
-                self.proved[folder.name] = {"proof": crate, "tests": f"{crate}, with tests"}.get(kind)
+                self.proved[folder.name] = proved_in(work)
             proved = self.proved[folder.name]
             if proved:
                 self.look_into(folder, proved)
+        self.looks += 1
+        if self.looks % KEPT_LOOKS == 0:
+            self.look_at_kept(numbers)
+
+    def look_at_kept(self, numbers: Collection[int]) -> None:
+        for number in set(numbers) - self.with_folder:
+            work = work_of(number)
+            proved = proved_in(work) if work else None
+            if proved:
+                for folder in kept_by(number):
+                    self.look_into(folder, proved)
 
     def look_into(self, folder: os.DirEntry[str], proved: str) -> None:
         ends = self.ends[folder.name, proved]
@@ -177,11 +207,18 @@ class Modules:
         """The seconds of each stage of each function, and of each file of lemmas, with its crate: from the module that was done before."""
         sums: defaultdict[StageOf, float] = defaultdict(float)
         for (_, proved), ends in self.ends.items():
-            done = sorted((end, name) for name, end in ends.items())
+            # What was kept of an earlier proof isn't of this one.
+            done = sorted((end, name) for name, end in ends.items() if self.begun <= end)
             for (begun, _), (end, name) in zip(done, done[1:]):
                 path, stage = owner(name)
                 sums[proved, path, stage] += end - begun
         return sums
+
+
+def proved_in(work: Work) -> Optional[str]:
+    """What the proof is of in which modules are made, or None where they aren't told of."""
+    crate, kind = work
+    return {"proof": crate, "tests": f"{crate}, with tests"}.get(kind)
 
 
 def owner(module: str) -> tuple[str, str]:

@@ -10,7 +10,7 @@ use sd_base::{NoMemory, Rows, StateRow};
 use token_matrix::{Entry, Matrix};
 
 /// Adds the edges out of all states.
-pub fn add_states(
+pub(crate) fn add_states(
     edges: &mut Vec<Edge>,
     tokens: u32,
     matrices: &[Matrix],

@@ -5,7 +5,9 @@ use sd_base::Rows;
 /// node that it leaves.
 #[derive(Clone, Copy, Debug, PartialEq, Eq)]
 pub struct Edge {
+    /// The number of the node that it leaves.
     pub from: u32,
+    /// The number of the node that it enters.
     pub to: u32,
     pub weight: u64,
 }

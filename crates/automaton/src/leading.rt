@@ -7,7 +7,7 @@ use sd_base::{ScenarioFile, StateRow};
 
 /// Whether the states of a file run its scenarios and each has a successor, the successors and the initial state being
 /// states of the file. Cost: linear in states and successors.
-#[tactic(auto, using(crate::proofs::Onward::lead_on, crate::proofs::Onward::all_lead))]
+#[tactic(auto, using(crate::proofs::PathsGoOn::lead_on, crate::proofs::PathsGoOn::all_lead))]
 pub fn leads_on(file: &ScenarioFile) -> bool
     ensures { MatchBool result (LeadsOn file.now) (LeadsOn file.now → ⊥) }
 {

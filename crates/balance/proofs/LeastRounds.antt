@@ -12,7 +12,7 @@ use Rattle.std.proofs.lemmas.List.Sums.{get_or-le-sum_by, sum_by-le}
 use Rattle.std.proofs.lemmas.List.Elements.{All-from_get_or}
 use Rattle.std.proofs.lemmas.Option.{none-some, same_Some, slice_get_within, slice_get-get_or, get_or_from_slice_get}
 use Rattle.sd_base.specs.Numbers.{IsLcm, IsAboveLimit}
-use Rattle.sd_base.proofs.Divisors.{root_divides, quotient_pos, lcm_from_gcd, some_gcd}
+use Rattle.sd_base.proofs.LeastMultiplesDivide.{root_divides, quotient_pos, lcm_from_gcd, some_gcd}
 use Rattle.sd_base.specs.declared.tables.GraphFile.{GraphFile}
 use Rattle.sd_base.specs.declared.tables.ActorRow.{ActorRow}
 use Rattle.sd_base.specs.Tables.{KeepsRules, phases_of}
@@ -24,13 +24,13 @@ use Rattle.balance.specs.Walks.{links_of, IsLinkWalk, IsLowest, step_to, walk_nu
 use Rattle.balance.specs.Repetition.{IsConsistent, IsKept, HasRatioWithinLimit, WaysAreWithinLimit}
 use Rattle.balance.specs.inside.Search.{HasEnds}
 use Rattle.balance.specs.inside.Ratios.{one, ratio_at, IsSmall, IsRatio, AreRatios, Keeps, DivideAll, IsCommon, IsRoundBy}
-use Rattle.balance.proofs.Order.{no_longer}
+use Rattle.balance.proofs.KeysOrderWalks.{no_longer}
 use Rattle.balance.specs.inside.Search.{HasSums}
-use Rattle.balance.proofs.WalkLemmas.{parts_pos, Balanced, carried}
-use Rattle.balance.proofs.Shortest.{one_way}
-use Rattle.balance.proofs.Fractions.{one_lowest, lowest_pos, reduced, kept_by_lowest, lowest_by_kept}
-use Rattle.balance.proofs.TableLemmas.{phases_at, has_sums}
-use Rattle.balance.proofs.Cycles.{balanced_cycles, balances_firings, cycles_of}
+use Rattle.balance.proofs.WalksJoinAndTurn.{parts_pos, Balanced, carried}
+use Rattle.balance.proofs.OneShortestWay.{one_way}
+use Rattle.balance.proofs.LowestTermsAreOne.{one_lowest, lowest_pos, reduced, kept_by_lowest, lowest_by_kept}
+use Rattle.balance.proofs.RulesBoundLinks.{phases_at, has_sums}
+use Rattle.balance.proofs.CyclesBalance.{balanced_cycles, balances_firings, cycles_of}
 
 -- ---- common multiples
 

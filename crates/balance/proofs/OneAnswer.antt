@@ -6,17 +6,17 @@ use Rattle.std.proofs.lemmas.Bool.{cases_order}
 use Rattle.std.proofs.lemmas.Option.{same_Some}
 use Rattle.sd_base.specs.declared.tables.GraphFile.{GraphFile}
 use Rattle.sd_base.specs.Tables.{KeepsRules}
-use Rattle.sd_base.proofs.Rounds.{one-repetition}
+use Rattle.sd_base.proofs.RoundsKeepTokens.{one-repetition}
 use Rattle.balance.specs.declared.walk.WalkStep.{WalkStep}
 use Rattle.balance.specs.declared.walk.Link.{Link}
 use Rattle.balance.specs.declared.refusal.BalanceError.TheVariants.{Apart, RatioTooLarge, Unbalanced, RoundTooLarge, NoMemory}
 use Rattle.balance.specs.Walks.{links_of, walk_num, walk_den, IsLowest, turned}
 use Rattle.balance.specs.Repetition.{IsConnected, HasRatioWithinLimit, HasRatioAboveLimit, WaysAreWithinLimit, IsConsistent, IsRound, IsRoundTooLarge, IsApart, IsRatioTooLarge, IsParted, IsTreePath, IsUnbalanced, HasOneAnswer}
 use Rattle.balance.specs.inside.Search.{HasSums}
-use Rattle.balance.proofs.WalkLemmas.{parts_pos}
-use Rattle.balance.proofs.Shortest.{same_ways, one_way}
-use Rattle.balance.proofs.Fractions.{one_lowest}
-use Rattle.balance.proofs.TableLemmas.{has_sums}
+use Rattle.balance.proofs.WalksJoinAndTurn.{parts_pos}
+use Rattle.balance.proofs.OneShortestWay.{same_ways, one_way}
+use Rattle.balance.proofs.LowestTermsAreOne.{one_lowest}
+use Rattle.balance.proofs.RulesBoundLinks.{has_sums}
 
 -- a walk's ratio isn't within the limit and above it
 pub within_or_above : (ls : List Link) → HasSums ls → (p : List WalkStep) → HasRatioWithinLimit ls p → HasRatioAboveLimit ls p → ⊥

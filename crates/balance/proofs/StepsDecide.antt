@@ -9,7 +9,7 @@ use Rattle.balance.specs.declared.refusal.BalanceError.{BalanceError}
 use Rattle.balance.specs.declared.refusal.BalanceError.TheVariants.{Apart, RatioTooLarge, Unbalanced, RoundTooLarge, NoMemory}
 use Rattle.sd_base.specs.Connection.{Meets, graph_ends}
 use Rattle.balance.specs.Walks.{links_of, IsLinkWalk}
-use Rattle.balance.proofs.Joined.{with_steps, without_steps}
+use Rattle.balance.proofs.StepsMatchEnds.{with_steps, without_steps}
 use Rattle.balance.specs.Repetition.{IsConnected, IsApart, IsBalanced, WaysAreWithinLimit, IsRefusal}
 use Rattle.balance.specs.inside.Search.{IsSearched, mark_at}
 use Rattle.balance.specs.inside.Ratios.{IsLimitRefusal, IsKeptRefusal, IsRoundRefusal}

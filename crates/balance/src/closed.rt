@@ -13,7 +13,7 @@ use sd_base::Rows;
 use std::alloc::{AllocError, Global};
 
 /// Whether all channels keep the ratios; else the refusal for the first that doesn't.
-pub fn all_kept(
+pub(crate) fn all_kept(
     alloc: Global,
     links: &[Link],
     search: &Search,

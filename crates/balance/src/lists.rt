@@ -6,7 +6,7 @@ use std::alloc::{AllocError, Global};
 
 /// A list of numbers for each actor.
 #[derive(Drop)]
-pub struct Lists {
+pub(crate) struct Lists {
     rows: Vec<Rows<u32>>,
 }
 

@@ -8,8 +8,10 @@ use std::alloc::Global;
 
 /// The ratio of a walk in lowest terms.
 #[derive(Clone, Copy)]
-pub struct Ratio {
+pub(crate) struct Ratio {
+    /// The cycles of the last actor's phases for `den` of the first's.
     pub num: u128,
+    /// The cycles of the first actor's phases for `num` of the last's.
     pub den: u128,
 }
 
@@ -81,7 +83,7 @@ fn way_ratio(links: &[Link], ratios: &[Ratio], found: Found) -> Ratio
 }
 
 /// The ratio of an actor.
-pub fn ratio_of(ratios: &[Ratio], actor: usize) -> Ratio
+pub(crate) fn ratio_of(ratios: &[Ratio], actor: usize) -> Ratio
     requires { actor < length ratios.now }
     ensures { result ≡ ratio_at ratios.now actor }
 {
@@ -127,7 +129,7 @@ pub fn lowest(num: u128, den: u128) -> Ratio
 }
 
 /// The first channel that doesn't keep the ratios.
-pub fn first_failing(links: &[Link], ratios: &[Ratio]) -> Option<usize>
+pub(crate) fn first_failing(links: &[Link], ratios: &[Ratio]) -> Option<usize>
     requires sums { HasSums links.now }
     requires ends { HasEnds (length ratios.now) links.now }
     requires small { (b : ℕ) → IsSmall (ratio_at ratios.now b) }

@@ -6,51 +6,52 @@ use std::alloc::{AllocError, Global};
 
 /// The step that led to an actor, from the one that was found at a place.
 #[derive(Clone, Copy)]
-pub struct Reach {
+pub(crate) struct Reach {
+    /// The place, from 0, in the order in which actors are found.
     pub place: usize,
     pub step: WalkStep,
 }
 
 /// An actor that the search has found. Actor 0 was reached by no step.
 #[derive(Clone, Copy)]
-pub struct Found {
+pub(crate) struct Found {
     pub actor: usize,
     pub reach: Option<Reach>,
 }
 
 /// A breadth-first search: what it has found, in this order, and by actor whether it is found.
 #[derive(Drop)]
-pub struct Search {
+pub(crate) struct Search {
     pub found: Vec<Found>,
     pub seen: Vec<bool>,
 }
 
-ghost use Rattle.balance.specs.inside.Search.{AreJoints, IsJoined, HasEnds, IsSearching, IsLooked, IsSearched, mark_at};
+ghost use Rattle.balance.specs.inside.Search.{IsIncidence, IsJoined, HasEnds, IsSearching, IsLooked, IsSearched, mark_at};
 
 /// The ways from actor 0 to all actors that walks reach. Breadth first, over the channels in their order, so that
 /// ways are found by rising numbers of steps, and of as many steps by rising lists of channels. Linear in actors and
 /// channels: it looks at each channel at most twice, and keeps of each way its last step.
-pub fn ways(alloc: Global, actors: usize, links: &[Link]) -> Result<Search, AllocError>
+pub(crate) fn ways(alloc: Global, actors: usize, links: &[Link]) -> Result<Search, AllocError>
     requires some { 1 ≤ actors }
     requires few { length links.now ≤ 256 }
     requires ends { HasEnds actors links.now }
     ensures { IfOk result (λ s. IsSearched links.now actors s.found.items s.seen.items) }
 {
-    let joints = joints(alloc, actors, links)?;
+    let incidence = incidence(alloc, actors, links)?;
     let mut search = begin(alloc, actors)?;
     for place in 0..actors {
         if place < search.found.len() {
-            visit(&mut search, links, &joints, place)?;
+            visit(&mut search, links, &incidence, place)?;
         }
     }
     Ok(search)
 }
 
 /// By actor the channels that join it with another one, in file order. A self-loop leads nowhere new and is in no list.
-fn joints(alloc: Global, actors: usize, links: &[Link]) -> Result<Lists, AllocError>
+fn incidence(alloc: Global, actors: usize, links: &[Link]) -> Result<Lists, AllocError>
     requires few { length links.now ≤ 256 }
     requires ends { HasEnds actors links.now }
-    ensures { IfOk result (λ lists. AreJoints links.now (length links.now) actors lists.rows.items) }
+    ensures { IfOk result (λ lists. IsIncidence links.now (length links.now) actors lists.rows.items) }
 {
     let mut lists = Lists::new(alloc, actors)?;
     for channel in 0..links.len() {
@@ -89,7 +90,7 @@ fn begin(alloc: Global, actors: usize) -> Result<Search, AllocError>
 }
 
 /// As many unset marks.
-pub fn unmarked(alloc: Global, actors: usize) -> Result<Vec<bool>, AllocError>
+pub(crate) fn unmarked(alloc: Global, actors: usize) -> Result<Vec<bool>, AllocError>
     ensures { IfOk result (λ marks. marks.items ≡ replicate actors false) }
 {
     let mut marks = Vec::new(alloc);
@@ -100,7 +101,7 @@ pub fn unmarked(alloc: Global, actors: usize) -> Result<Vec<bool>, AllocError>
 }
 
 /// The least actor that isn't marked.
-pub fn first_unmarked(marks: &[bool]) -> Option<u32>
+pub(crate) fn first_unmarked(marks: &[bool]) -> Option<u32>
     requires { length marks.now < 2 ^ 32 }
     ensures { MatchOption result ((b : ℕ) → b < length marks.now → mark_at marks.now b ≡ true)
         (λ b. (b < length marks.now) × (mark_at marks.now b ≡ false)
@@ -118,11 +119,11 @@ pub fn first_unmarked(marks: &[bool]) -> Option<u32>
 fn visit(
     search: &mut Search,
     links: &[Link],
-    joints: &Lists,
+    incidence: &Lists,
     place: usize,
 ) -> Result<(), AllocError>
     requires ends { HasEnds (length search.old.seen.items) links.now }
-    requires joints { AreJoints links.now (length links.now) (length search.old.seen.items) joints.now.rows.items }
+    requires incidence { IsIncidence links.now (length links.now) (length search.old.seen.items) incidence.now.rows.items }
     requires listed { place < length search.old.found.items }
     requires before { IsSearching links.now (length search.old.seen.items)
         search.old.found.items search.old.seen.items place 0 }
@@ -130,7 +131,7 @@ fn visit(
         search.new.found.items search.new.seen.items (place + 1) 0) }
 {
     let actor = search.found[place].actor;
-    for channel in joints.at(actor) {
+    for channel in incidence.at(actor) {
         look(search, place, *channel, links[*channel as usize])?;
     }
     Ok(())

@@ -5,6 +5,7 @@ use std::alloc::{AllocError, Global};
 /// target to its source.
 #[derive(Clone, Copy, Debug, PartialEq, Eq)]
 pub struct WalkStep {
+    /// The number of the channel.
     pub channel: u32,
     pub forward: bool,
 }
@@ -13,7 +14,9 @@ pub struct WalkStep {
 /// cycle of its target's phases takes.
 #[derive(Clone, Copy)]
 pub struct Link {
+    /// The number of the source.
     pub source: usize,
+    /// The number of the target.
     pub target: usize,
     pub made: u64,
     pub taken: u64,
@@ -24,7 +27,7 @@ ghost use Rattle.sd_base.specs.Tables.{KeepsRules};
 ghost use Rattle.balance.specs.Walks.{link_of, links_of};
 
 /// The channels of a graph, in file order.
-pub fn links(alloc: Global, graph: &GraphFile) -> Result<Vec<Link>, AllocError>
+pub(crate) fn links(alloc: Global, graph: &GraphFile) -> Result<Vec<Link>, AllocError>
     requires { KeepsRules graph.now }
     ensures { IfOk result (λ ls. ls.items ≡ links_of graph.now) }
 {

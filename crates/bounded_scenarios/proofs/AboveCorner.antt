@@ -10,28 +10,28 @@ use Rattle.sd_base.specs.declared.tables.ScenarioRow.{ScenarioRow}
 use Rattle.sd_base.specs.declared.tables.SharedRow.{SharedRow}
 use Rattle.sd_base.specs.Net.{Channel, Net, IsRepetitionOf, channel_at, file_channel, nowhere, total}
 use Rattle.sd_base.specs.Untimed.{IsLive}
-use Rattle.sd_base.proofs.Parts.{balanced}
-use Rattle.sd_base.proofs.Lists.{get-left}
+use Rattle.sd_base.proofs.LawfulIsRegular.{balanced}
+use Rattle.sd_base.proofs.ElementsKeepPlaces.{get-left}
 use Rattle.storage.specs.Distributions.{AtMost, IsDistribution, capacity_at, storage_of}
 use Rattle.storage.specs.Steps.{CoversRates, IsCorner, rounded, rounded_at}
-use Rattle.storage.proofs.Corners.{corner-below, rounded-entry}
+use Rattle.storage.proofs.CornerStaysBelow.{corner-below, rounded-entry}
 use Rattle.storage.proofs.FrontsFromMembers.{AreLowest}
-use Rattle.token_matrix.proofs.OfGraph.{channels-many}
+use Rattle.token_matrix.proofs.GraphMatricesCarry.{channels-many}
 use Rattle.bounded_scenarios.specs.BoundedFiles.{bounded_file, bounded_graph, space_row, space_rows}
 use Rattle.bounded_scenarios.specs.Boundings.{CanBeBounded}
 use Rattle.bounded_scenarios.specs.SharedChannels.{channel_named, shared_channel, shared_channels}
 use Rattle.bounded_scenarios.specs.StorageRates.{AllRun, HasWorstRate, bounded_net}
 use Rattle.bounded_scenarios.specs.StorageRates.HasWorstRate.{blocked, runs}
 use Rattle.bounded_scenarios.proofs.BoundedRules.{channel-is}
-use Rattle.bounded_scenarios.proofs.Counts.{dist-long, dist-room}
+use Rattle.bounded_scenarios.proofs.StorageCountsTokens.{dist-long, dist-room}
 use Rattle.bounded_scenarios.proofs.FirstTokens.{first-rate, laws, one-phase}
-use Rattle.bounded_scenarios.proofs.Lists.{at-right}
+use Rattle.bounded_scenarios.proofs.JoinedListsSplit.{at-right}
 use Rattle.bounded_scenarios.proofs.LiveRooms.{IsSpaceOf, made-covered, taken-covered}
-use Rattle.bounded_scenarios.proofs.Measurable.{kept}
+use Rattle.bounded_scenarios.proofs.BoundedRatesExist.{kept}
 use Rattle.bounded_scenarios.proofs.NamedChannels.{shared-named}
 use Rattle.bounded_scenarios.proofs.RunningRooms.{low-carries, low-dist, low-live}
 use Rattle.bounded_scenarios.proofs.SharedSteps.{bound-named, bound-single, shared-there}
-use Rattle.bounded_scenarios.proofs.Spaces.{space-there}
+use Rattle.bounded_scenarios.proofs.SpacesFollowRows.{space-there}
 
 -- ---- rates are in lowest terms
 

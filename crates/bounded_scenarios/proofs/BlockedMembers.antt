@@ -10,17 +10,17 @@ use Rattle.sd_base.specs.FileNet.{net_of}
 use Rattle.sd_base.specs.Net.{Channel, Net, IsRepetitionOf, channel_at, file_channel}
 use Rattle.sd_base.specs.Schedules.{Lacks, Needs}
 use Rattle.sd_base.specs.Untimed.{Blocks, CanFire, IsLive}
-use Rattle.sd_base.proofs.Blocking.{live-unblocked}
+use Rattle.sd_base.proofs.ClosedCountsBoundRuns.{live-unblocked}
 use Rattle.sd_base.proofs.FileNets.{widened}
-use Rattle.sd_base.proofs.Parts.{wired}
-use Rattle.sd_base.proofs.Lists.{get-left}
-use Rattle.sd_base.proofs.Rounds.{one-repetition}
+use Rattle.sd_base.proofs.LawfulIsRegular.{wired}
+use Rattle.sd_base.proofs.ElementsKeepPlaces.{get-left}
+use Rattle.sd_base.proofs.RoundsKeepTokens.{one-repetition}
 use Rattle.storage.specs.Distributions.{storage_of}
 use Rattle.storage.specs.Steps.{rounded}
-use Rattle.storage.proofs.Climbs.{storage-le}
-use Rattle.storage.proofs.Kept.{can_or_lacks}
+use Rattle.storage.proofs.StepsReachMembers.{storage-le}
+use Rattle.storage.proofs.BlockingStays.{can_or_lacks}
 use Rattle.token_matrix.specs.EntryWays.{CarriesStamps}
-use Rattle.token_matrix.proofs.OfGraph.{channels-many}
+use Rattle.token_matrix.proofs.GraphMatricesCarry.{channels-many}
 use Rattle.bounded_scenarios.specs.BoundedFiles.{bounded_file, bounded_graph, space_name, space_row, space_rows}
 use Rattle.bounded_scenarios.specs.Boundings.{CanBeBounded}
 use Rattle.bounded_scenarios.specs.ScenarioGuides.{IsHeldUp, IsSpaceFor}
@@ -28,11 +28,11 @@ use Rattle.bounded_scenarios.specs.SharedChannels.{channel_named, shared_channel
 use Rattle.bounded_scenarios.specs.ShownSpaces.{BlockedBounds, IsAbove, ShowsHeldUp}
 use Rattle.bounded_scenarios.specs.StorageRates.{bounded_net}
 use Rattle.bounded_scenarios.specs.StorageRates.HasWorstRate.{blocked, runs}
-use Rattle.bounded_scenarios.proofs.BothNets.{BothAt, IsSpaceOfBoth, both-at, high-is, low-is, same-nets}
+use Rattle.bounded_scenarios.proofs.NetsDifferInSpaces.{BothAt, IsSpaceOfBoth, both-at, high-is, low-is, same-nets}
 use Rattle.bounded_scenarios.proofs.BoundedRules.{channel-is, channel-there}
 use Rattle.bounded_scenarios.proofs.FirstTokens.{laws}
 use Rattle.bounded_scenarios.proofs.LiveRooms.{blocks-on}
-use Rattle.bounded_scenarios.proofs.Measurable.{gives-matrix, kept}
+use Rattle.bounded_scenarios.proofs.BoundedRatesExist.{gives-matrix, kept}
 use Rattle.bounded_scenarios.proofs.PushedWays.{agreed}
 use Rattle.bounded_scenarios.proofs.RunningRooms.{low-carries, low-live, low-within, named}
 

@@ -16,14 +16,14 @@ use Rattle.sd_base.specs.Scenarios.{Shares}
 use Rattle.sd_base.specs.Schedules.{HasInputs}
 use Rattle.sd_base.specs.Tables.{ChannelKeepsRules, KeepsRules, KeepsWideRules, phases_of}
 use Rattle.sd_base.proofs.FileNets.{file-at, widened}
-use Rattle.sd_base.proofs.Lists.{get-left, all-get, get-there}
-use Rattle.automaton.proofs.Pigeons.{pigeons}
+use Rattle.sd_base.proofs.ElementsKeepPlaces.{get-left, all-get, get-there}
+use Rattle.automaton.proofs.TwoAreTheSame.{pigeons}
 use Rattle.token_matrix.specs.Stamps.{no_row}
-use Rattle.token_matrix.proofs.OfGraph.{channels-are, channels-many}
+use Rattle.token_matrix.proofs.GraphMatricesCarry.{channels-are, channels-many}
 use Rattle.bounded_scenarios.specs.BoundedFiles.{bounded_graph, space_row, space_rows}
 use Rattle.bounded_scenarios.specs.SharedChannels.{channel_named}
 use Rattle.bounded_scenarios.proofs.NamedChannels.{shared-named}
-use Rattle.bounded_scenarios.proofs.Spaces.{space-at}
+use Rattle.bounded_scenarios.proofs.SpacesFollowRows.{space-at}
 
 -- ---- shared rows are no more than channels
 

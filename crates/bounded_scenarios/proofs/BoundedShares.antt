@@ -5,13 +5,13 @@ use Rattle.sd_base.specs.declared.tables.GraphFile.{GraphFile}
 use Rattle.sd_base.specs.declared.tables.ChannelRow.{ChannelRow}
 use Rattle.sd_base.specs.declared.tables.SharedRow.{SharedRow}
 use Rattle.sd_base.specs.Scenarios.{Shares}
-use Rattle.sd_base.proofs.Lists.{get-left}
+use Rattle.sd_base.proofs.ElementsKeepPlaces.{get-left}
 use Rattle.bounded_scenarios.specs.BoundedFiles.{bounded_graph, space_name, space_row, space_rows, space_shares}
 use Rattle.bounded_scenarios.specs.SharedChannels.{channel_named}
 use Rattle.bounded_scenarios.specs.Boundings.{AreFileNames}
-use Rattle.bounded_scenarios.proofs.Lists.{IsLater, at-either, at-right}
-use Rattle.bounded_scenarios.proofs.Spaces.{share-at, share-there, share_of, space-at, space-there}
-use Rattle.token_matrix.proofs.Numbering.{RowsDiffer, later_differ}
+use Rattle.bounded_scenarios.proofs.JoinedListsSplit.{IsLater, at-either, at-right}
+use Rattle.bounded_scenarios.proofs.SpacesFollowRows.{share-at, share-there, share_of, space-at, space-there}
+use Rattle.token_matrix.proofs.NumbersCoverTokens.{RowsDiffer, later_differ}
 use Rattle.bounded_scenarios.proofs.NamedChannels.{named-is, shared-named}
 
 -- ---- no two of them have one name

@@ -13,13 +13,13 @@ use Rattle.sd_base.specs.Net.{Channel, IsRepetitionOf, channel_at, total}
 use Rattle.sd_base.specs.Scenarios.{shared_count}
 use Rattle.sd_base.specs.Schedules.{HasInputs}
 use Rattle.sd_base.specs.Untimed.{IsLive}
-use Rattle.sd_base.proofs.Sums.{total-turn, total-turns}
-use Rattle.sd_base.proofs.Lists.{get-there}
-use Rattle.sd_base.proofs.Rounds.{one-repetition}
+use Rattle.sd_base.proofs.SumsRepeatByTurns.{total-turn, total-turns}
+use Rattle.sd_base.proofs.ElementsKeepPlaces.{get-there}
+use Rattle.sd_base.proofs.RoundsKeepTokens.{one-repetition}
 use Rattle.storage.specs.Distributions.{IsDistribution, storage_of}
 use Rattle.token_matrix.specs.EntryWays.{CarriesStamps}
 use Rattle.token_matrix.specs.Stamps.{AreStampsOf, first_of, first_token, no_row}
-use Rattle.token_matrix.proofs.OfGraph.{covers, inside}
+use Rattle.token_matrix.proofs.GraphMatricesCarry.{covers, inside}
 use Rattle.token_matrix.proofs.StampsExist.{stamps}
 use Rattle.bounded_scenarios.specs.BoundedFiles.{bounded_file, bounded_graph, bounded_scenario}
 use Rattle.bounded_scenarios.specs.Boundings.{CanBeBounded}
@@ -27,8 +27,8 @@ use Rattle.bounded_scenarios.specs.SharedChannels.{shared_channels}
 use Rattle.bounded_scenarios.specs.StorageRates.{AllRun}
 use Rattle.bounded_scenarios.proofs.BoundedRules.{channel-is, channel-there}
 use Rattle.bounded_scenarios.proofs.FirstTokens.{laws, one-phase}
-use Rattle.bounded_scenarios.proofs.Measurable.{gives-matrix, measurable}
-use Rattle.bounded_scenarios.proofs.Numbers.{Says, name_at, place_at, token_is}
+use Rattle.bounded_scenarios.proofs.BoundedRatesExist.{gives-matrix, measurable}
+use Rattle.bounded_scenarios.proofs.NumbersNameTokens.{Says, name_at, place_at, token_is}
 use Rattle.bounded_scenarios.proofs.TourLists.{HaveStamps}
 
 single-moves : (xs : List ℕ) → length xs ≡ 1 → 1 ≤ sum xs → (j : ℕ) → total xs j < total xs (j + 1)

@@ -5,14 +5,14 @@ use Rattle.std.proofs.lemmas.Nat.{same_from_place}
 use Rattle.sd_base.specs.declared.tables.ScenarioFile.{ScenarioFile}
 use Rattle.sd_base.specs.declared.tables.ScenarioRow.{ScenarioRow}
 use Rattle.sd_base.specs.Net.{IsRepetitionOf}
-use Rattle.sd_base.proofs.Lists.{get-map}
-use Rattle.sd_base.proofs.Containing.{contains-here, contains-later}
+use Rattle.sd_base.proofs.ElementsKeepPlaces.{get-map}
+use Rattle.sd_base.proofs.ContainedHavePlaces.{contains-here, contains-later}
 use Rattle.automaton.specs.declared.graph.Edge.{Edge}
 use Rattle.automaton.specs.declared.graph.TimedGraph.{TimedGraph}
 use Rattle.automaton.specs.CriticalCycles.{IsPath, IsReachedNode, weight_in, weights}
 use Rattle.automaton.specs.TimedGraphs.{IsTimedGraph}
 use Rattle.automaton.specs.WorstRates.{IsSuccessor}
-use Rattle.automaton.proofs.Stamping.{edge_from}
+use Rattle.automaton.proofs.StampsAreWeights.{edge_from}
 use Rattle.bounded_scenarios.specs.BoundedFiles.{bounded_file, bounded_graph, bounded_scenario}
 use Rattle.bounded_scenarios.specs.ScenarioGuides.{IsEntryOf, IsWayOf}
 use Rattle.bounded_scenarios.specs.ShownSpaces.{ShowsTaken, ShowsWays}

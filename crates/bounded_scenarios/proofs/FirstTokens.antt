@@ -12,10 +12,10 @@ use Rattle.sd_base.specs.Scenarios.{shared_count}
 use Rattle.sd_base.specs.Schedules.{HasInputs}
 use Rattle.sd_base.specs.Untimed.{CanFire, Fires, IsLive, counts_after, none_fired}
 use Rattle.sd_base.proofs.FileNets.{net_of-lawful}
-use Rattle.sd_base.proofs.Sums.{total-turn, total-zero}
+use Rattle.sd_base.proofs.SumsRepeatByTurns.{total-turn, total-zero}
 use Rattle.token_matrix.specs.EntryWays.{CarriesStamps}
 use Rattle.token_matrix.specs.Stamps.{first_of}
-use Rattle.token_matrix.proofs.OfGraph.{inside}
+use Rattle.token_matrix.proofs.GraphMatricesCarry.{inside}
 
 pub no_actor : ActorRow
 no_actor = record { name = []; phases = 0; times = [] }

@@ -6,12 +6,12 @@ use Rattle.std.proofs.lemmas.Nat.{same_from_place}
 use Rattle.sd_base.specs.declared.tables.ScenarioFile.{ScenarioFile}
 use Rattle.sd_base.specs.declared.tables.ScenarioRow.{ScenarioRow}
 use Rattle.sd_base.specs.Net.{IsRepetitionOf}
-use Rattle.sd_base.proofs.Lists.{get-map}
+use Rattle.sd_base.proofs.ElementsKeepPlaces.{get-map}
 use Rattle.automaton.specs.CriticalCycles.{weights}
 use Rattle.automaton.specs.WorstRates.{IsWorst}
 use Rattle.storage.specs.Distributions.{storage_of}
 use Rattle.storage.specs.Steps.{rounded}
-use Rattle.storage.proofs.Climbs.{storage-le}
+use Rattle.storage.proofs.StepsReachMembers.{storage-le}
 use Rattle.bounded_scenarios.specs.BoundedFiles.{bounded_file, bounded_scenario}
 use Rattle.bounded_scenarios.specs.Boundings.{CanBeBounded}
 use Rattle.bounded_scenarios.specs.SharedChannels.{shared_channels}
@@ -21,14 +21,14 @@ use Rattle.bounded_scenarios.specs.StorageRates.HasWorstRate.{blocked, runs}
 use Rattle.bounded_scenarios.proofs.BlockedMembers.{above-carries, member-carries}
 use Rattle.bounded_scenarios.proofs.BoundedStamps.{all-lawful, gives-back, have-stamps, row-from}
 use Rattle.bounded_scenarios.proofs.CycleTours.{AreShown, LeadsAt, path-tour, reached-leads}
-use Rattle.bounded_scenarios.proofs.Measurable.{kept}
-use Rattle.bounded_scenarios.proofs.Numbers.{renumbered}
+use Rattle.bounded_scenarios.proofs.BoundedRatesExist.{kept}
+use Rattle.bounded_scenarios.proofs.NumbersNameTokens.{renumbered}
 use Rattle.bounded_scenarios.proofs.PushedWays.{pushed_named, way-pushed}
 use Rattle.bounded_scenarios.proofs.RunningRooms.{fit, high-carries, low-dist, low-within, named}
 use Rattle.bounded_scenarios.proofs.SparedWays.{spared_named, way-spared}
 use Rattle.bounded_scenarios.proofs.TourLists.{IsTour, LeadTo}
 use Rattle.bounded_scenarios.proofs.TourMaps.{StandsFor, lead-maps, tour-maps}
-use Rattle.bounded_scenarios.proofs.Tours.{tour-bounds}
+use Rattle.bounded_scenarios.proofs.ToursBoundRates.{tour-bounds}
 
 -- of two equal ratios and one that is no greater than the first
 pub cross : (v l w len p q : ℕ) → 1 ≤ len → v * l ≡ w * len → p * v ≤ q * len → p * w ≤ l * q

@@ -4,13 +4,13 @@ use Rattle.std.specs.Prelude.{slice_index}
 use Rattle.sd_base.specs.Net.{Net, Channel, channel_at, total}
 use Rattle.sd_base.specs.Schedules.{Needs}
 use Rattle.sd_base.specs.Untimed.{none_fired, counts_after, IsLive, Blocks}
-use Rattle.sd_base.proofs.Parts.{Wired}
-use Rattle.sd_base.proofs.Blocking.{live-unblocked}
-use Rattle.sd_base.proofs.Ends.{live_or_blocked}
-use Rattle.sd_base.proofs.Sums.{total-zero}
-use Rattle.storage.proofs.Wholes.{whole-total}
+use Rattle.sd_base.proofs.LawfulIsRegular.{Wired}
+use Rattle.sd_base.proofs.ClosedCountsBoundRuns.{live-unblocked}
+use Rattle.sd_base.proofs.FiringOrdersEnd.{live_or_blocked}
+use Rattle.sd_base.proofs.SumsRepeatByTurns.{total-zero}
+use Rattle.storage.proofs.SumsStayWhole.{whole-total}
 use Rattle.bounded_scenarios.proofs.TokenMaps.{SameNets, SameRates, HasSpare}
-use Rattle.storage.proofs.Levels.{IsBefore, before-firing, none-paid}
+use Rattle.storage.proofs.TokensStayNonnegative.{IsBefore, before-firing, none-paid}
 
 -- counts block another net too, if each actor below its round lacks tokens there on some channel
 pub blocks-on : (net other : Net) (v : ℕ → ℕ) → SameNets net other → Blocks net v →

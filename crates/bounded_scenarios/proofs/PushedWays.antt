@@ -18,9 +18,9 @@ use Rattle.bounded_scenarios.specs.ScenarioGuides.{IsSpaceFor}
 use Rattle.bounded_scenarios.specs.SharedChannels.{channel_named}
 use Rattle.bounded_scenarios.specs.ShownSpaces.{ShowsTaken}
 use Rattle.bounded_scenarios.specs.StorageRates.{bounded_net}
-use Rattle.bounded_scenarios.proofs.BothNets.{BothAt, IsSpaceOfBoth, both-at, both-rows, high-is, low-is, roomier, same-ends}
-use Rattle.bounded_scenarios.proofs.Numbers.{renumbered}
-use Rattle.bounded_scenarios.proofs.Renumbering.{IsNamedAlike, way-stands}
+use Rattle.bounded_scenarios.proofs.NetsDifferInSpaces.{BothAt, IsSpaceOfBoth, both-at, both-rows, high-is, low-is, roomier, same-ends}
+use Rattle.bounded_scenarios.proofs.NumbersNameTokens.{renumbered}
+use Rattle.bounded_scenarios.proofs.RenumberedWaysStand.{IsNamedAlike, way-stands}
 use Rattle.bounded_scenarios.proofs.TokenMaps.{pushed}
 use Rattle.bounded_scenarios.proofs.TokensNamed.{tokens-named, tokens_named}
 use Rattle.bounded_scenarios.proofs.WayMaps.{pushed-left, pushed-maps}

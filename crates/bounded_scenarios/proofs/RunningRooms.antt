@@ -6,20 +6,20 @@ use Rattle.sd_base.specs.declared.tables.ScenarioRow.{ScenarioRow}
 use Rattle.sd_base.specs.declared.tables.SharedRow.{SharedRow}
 use Rattle.sd_base.specs.Net.{IsRepetitionOf}
 use Rattle.sd_base.specs.Untimed.{IsLive}
-use Rattle.sd_base.proofs.Parts.{wired}
+use Rattle.sd_base.proofs.LawfulIsRegular.{wired}
 use Rattle.storage.specs.Distributions.{IsDistribution, storage_of}
 use Rattle.storage.specs.Steps.{rounded}
-use Rattle.storage.proofs.Climbs.{storage-le}
-use Rattle.storage.proofs.Corners.{rounded-dist, rounded-most}
+use Rattle.storage.proofs.StepsReachMembers.{storage-le}
+use Rattle.storage.proofs.CornerStaysBelow.{rounded-dist, rounded-most}
 use Rattle.token_matrix.specs.EntryWays.{CarriesStamps}
 use Rattle.bounded_scenarios.specs.BoundedFiles.{bounded_file, bounded_graph}
 use Rattle.bounded_scenarios.specs.Boundings.{CanBeBounded}
 use Rattle.bounded_scenarios.specs.SharedChannels.{channel_named, shared_channel, shared_channels}
 use Rattle.bounded_scenarios.specs.StorageRates.{bounded_net}
 use Rattle.bounded_scenarios.proofs.FirstTokens.{laws}
-use Rattle.bounded_scenarios.proofs.Fitting.{FitsShared, fits}
+use Rattle.bounded_scenarios.proofs.ChannelsFitShared.{FitsShared, fits}
 use Rattle.bounded_scenarios.proofs.LiveRooms.{spare-live}
-use Rattle.bounded_scenarios.proofs.Measurable.{gives-matrix, kept}
+use Rattle.bounded_scenarios.proofs.BoundedRatesExist.{gives-matrix, kept}
 use Rattle.bounded_scenarios.proofs.NamedChannels.{named-is}
 use Rattle.bounded_scenarios.proofs.SparedWays.{has-spare, spare, step}
 

@@ -9,11 +9,11 @@ use Rattle.sd_base.specs.declared.tables.ScenarioRow.{ScenarioRow}
 use Rattle.sd_base.specs.declared.tables.SharedRow.{SharedRow}
 use Rattle.sd_base.specs.Net.{Channel, nowhere}
 use Rattle.sd_base.specs.Scenarios.{FileKeepsRules}
-use Rattle.sd_base.proofs.Lists.{get-there}
+use Rattle.sd_base.proofs.ElementsKeepPlaces.{get-there}
 use Rattle.storage.specs.Steps.{step_of}
-use Rattle.storage.proofs.Climbs.{HasSteps}
+use Rattle.storage.proofs.StepsReachMembers.{HasSteps}
 use Rattle.bounded_scenarios.specs.SharedChannels.{channel_named, channels_named, shared_channel, shared_channels, shared_channels_from}
-use Rattle.bounded_scenarios.proofs.Fitting.{fits}
+use Rattle.bounded_scenarios.proofs.ChannelsFitShared.{fits}
 
 -- a shared channel past the first ones is one of the rows
 pub shared-there : (ss : List ScenarioRow) (p : ℕ) (rows : List SharedRow) (t : ℕ) → t < length (shared_channels_from ss p rows) →

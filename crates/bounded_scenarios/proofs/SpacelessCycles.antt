@@ -9,7 +9,7 @@ use Rattle.sd_base.specs.declared.tables.ScenarioRow.{ScenarioRow}
 use Rattle.sd_base.specs.FileNet.{net_of}
 use Rattle.sd_base.specs.Net.{IsRepetitionOf}
 use Rattle.sd_base.specs.Scenarios.{shared_count}
-use Rattle.sd_base.proofs.Lists.{get-map}
+use Rattle.sd_base.proofs.ElementsKeepPlaces.{get-map}
 use Rattle.automaton.specs.CriticalCycles.{weights}
 use Rattle.automaton.specs.WorstRates.{IsWorst}
 use Rattle.storage.specs.Distributions.{IsDistribution, storage_of}
@@ -25,10 +25,10 @@ use Rattle.bounded_scenarios.specs.StorageRates.HasWorstRate.{blocked, runs}
 use Rattle.bounded_scenarios.proofs.BoundedStamps.{all-lawful, gives-back, have-stamps, row-from}
 use Rattle.bounded_scenarios.proofs.CycleTours.{AreShown, LeadsAt, path-tour, reached-leads}
 use Rattle.bounded_scenarios.proofs.LiveMembers.{cross}
-use Rattle.bounded_scenarios.proofs.Measurable.{gives-matrix, kept}
+use Rattle.bounded_scenarios.proofs.BoundedRatesExist.{gives-matrix, kept}
 use Rattle.bounded_scenarios.proofs.SpacelessWays.{way-begins, way-same}
 use Rattle.bounded_scenarios.proofs.TourLists.{IsLeg, IsTour, LeadTo}
-use Rattle.bounded_scenarios.proofs.Tours.{tour-bounds}
+use Rattle.bounded_scenarios.proofs.ToursBoundRates.{tour-bounds}
 
 module _ (file : ScenarioFile) (total : ℕ) (can : CanBeBounded file total) (m : List (Option ℕ)) (member : IsDistribution (shared_channels file) m)
     (small : storage_of (shared_channels file) m ≤ total)

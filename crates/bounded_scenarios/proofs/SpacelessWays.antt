@@ -11,15 +11,15 @@ use Rattle.sd_base.specs.declared.tables.SharedRow.{SharedRow}
 use Rattle.sd_base.specs.Net.{Channel, Net, channel_at, file_channel, total}
 use Rattle.sd_base.specs.Scenarios.{Shares, shared_count}
 use Rattle.sd_base.specs.Schedules.{time_of}
-use Rattle.sd_base.proofs.Lists.{get-left}
-use Rattle.sd_base.proofs.Containing.{contains-here, contains-later}
+use Rattle.sd_base.proofs.ElementsKeepPlaces.{get-left}
+use Rattle.sd_base.proofs.ContainedHavePlaces.{contains-here, contains-later}
 use Rattle.token_matrix.specs.EntryWays.{CarriesStamps}
 use Rattle.token_matrix.specs.Stamps.{IsPutBy, IsTakenBy, first_of, first_token, left_token, no_row}
 use Rattle.token_matrix.specs.Ways.{IsChain, IsWay}
 use Rattle.token_matrix.specs.Ways.IsChain.{begins, goes}
 use Rattle.token_matrix.specs.Ways.IsWay.{stays, put}
-use Rattle.token_matrix.proofs.Numbering.{first_inside}
-use Rattle.token_matrix.proofs.OfGraph.{channels-many}
+use Rattle.token_matrix.proofs.NumbersCoverTokens.{first_inside}
+use Rattle.token_matrix.proofs.GraphMatricesCarry.{channels-many}
 use Rattle.bounded_scenarios.specs.BoundedFiles.{bounded_graph, space_name, space_rows, space_shares}
 use Rattle.bounded_scenarios.specs.Boundings.{AreFileNames}
 use Rattle.bounded_scenarios.specs.ScenarioGuides.{IsSpaceFor}
@@ -27,9 +27,9 @@ use Rattle.bounded_scenarios.specs.SharedChannels.{channel_named}
 use Rattle.bounded_scenarios.specs.ShownSpaces.{ShowsTaken}
 use Rattle.bounded_scenarios.specs.StorageRates.{bounded_net}
 use Rattle.bounded_scenarios.proofs.BoundedRules.{channel-is, channel-there}
-use Rattle.bounded_scenarios.proofs.Lists.{IsLater, at-either}
+use Rattle.bounded_scenarios.proofs.JoinedListsSplit.{IsLater, at-either}
 use Rattle.bounded_scenarios.proofs.NamedChannels.{named-is}
-use Rattle.bounded_scenarios.proofs.Spaces.{space-at}
+use Rattle.bounded_scenarios.proofs.SpacesFollowRows.{space-at}
 
 -- ---- the tokens of the first rows have the first numbers
 

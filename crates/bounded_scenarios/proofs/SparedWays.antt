@@ -13,20 +13,20 @@ use Rattle.sd_base.specs.Net.{Channel, Net, channel_at, file_channel, nowhere}
 use Rattle.storage.specs.Distributions.{AtMost, IsDistribution, capacity_at}
 use Rattle.storage.specs.Steps.{rounded, rounded_at, step_of}
 use Rattle.storage.proofs.ChannelSteps.{AreWhole}
-use Rattle.storage.proofs.Corners.{rounded-entry, rounded-most}
+use Rattle.storage.proofs.CornerStaysBelow.{rounded-entry, rounded-most}
 use Rattle.token_matrix.specs.EntryWays.{CarriesStamps}
 use Rattle.token_matrix.specs.Stamps.{first_of, no_row}
 use Rattle.token_matrix.specs.Ways.{IsWay}
-use Rattle.token_matrix.proofs.Numbering.{RowsDiffer, later_differ}
+use Rattle.token_matrix.proofs.NumbersCoverTokens.{RowsDiffer, later_differ}
 use Rattle.bounded_scenarios.specs.BoundedFiles.{bounded_graph, space_name, space_row, space_shares}
 use Rattle.bounded_scenarios.specs.Boundings.{AreFileNames}
 use Rattle.bounded_scenarios.specs.SharedChannels.{channel_named, shared_channel, shared_channels, shared_channels_from}
 use Rattle.bounded_scenarios.specs.StorageRates.{bounded_net}
-use Rattle.bounded_scenarios.proofs.BothNets.{BothAt, IsSpaceOfBoth, both-at, both-rows, high-is, low-is, same-ends, same-nets}
-use Rattle.bounded_scenarios.proofs.Fitting.{FitsShared}
-use Rattle.bounded_scenarios.proofs.Numbers.{renumbered}
+use Rattle.bounded_scenarios.proofs.NetsDifferInSpaces.{BothAt, IsSpaceOfBoth, both-at, both-rows, high-is, low-is, same-ends, same-nets}
+use Rattle.bounded_scenarios.proofs.ChannelsFitShared.{FitsShared}
+use Rattle.bounded_scenarios.proofs.NumbersNameTokens.{renumbered}
 use Rattle.bounded_scenarios.proofs.PushedWays.{alike}
-use Rattle.bounded_scenarios.proofs.Renumbering.{way-stands}
+use Rattle.bounded_scenarios.proofs.RenumberedWaysStand.{way-stands}
 use Rattle.bounded_scenarios.proofs.TokenMaps.{HasSpare, spared}
 use Rattle.bounded_scenarios.proofs.TokensNamed.{tokens-named, tokens_named}
 use Rattle.bounded_scenarios.proofs.WayMaps.{spare-left, spare-maps}

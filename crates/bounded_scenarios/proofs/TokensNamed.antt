@@ -8,7 +8,7 @@ use Rattle.sd_base.specs.declared.tables.ChannelRow.{ChannelRow}
 use Rattle.sd_base.specs.declared.tables.GraphFile.{GraphFile}
 use Rattle.sd_base.specs.declared.tables.SharedRow.{SharedRow}
 use Rattle.sd_base.specs.Scenarios.{Shares}
-use Rattle.token_matrix.proofs.Numbering.{RowsDiffer, later_differ, one_head}
+use Rattle.token_matrix.proofs.NumbersCoverTokens.{RowsDiffer, later_differ, one_head}
 
 -- the tokens of the first row of a name, if there is one
 abbrev pub tokens_named : List SharedRow → List ℕ → ℕ

@@ -10,8 +10,8 @@ use Rattle.token_matrix.specs.Stamps.{IsTakenBy, IsPutBy, left_token}
 use Rattle.token_matrix.specs.Ways.{IsChain, IsWay}
 use Rattle.token_matrix.specs.Ways.IsWay.{stays, put}
 use Rattle.bounded_scenarios.proofs.TokenMaps.{MapsTokens, MapsLeft, SameNets, SameRates, IsRoomier, HasSpare, spared, pushed}
-use Rattle.bounded_scenarios.proofs.Chains.{chain_maps}
-use Rattle.storage.proofs.Wholes.{whole-total}
+use Rattle.bounded_scenarios.proofs.TokenMapsKeepChains.{chain_maps}
+use Rattle.storage.proofs.SumsStayWhole.{whole-total}
 
 same-time : (net other : Net) → SameNets net other → (i n : ℕ) → i < length net.channels →
     time_of other (channel_at other i).source n ≡ time_of net (channel_at net i).source n

@@ -1,2 +1,2 @@
 pub mod Naming
-pub mod Joints
+pub mod MergedRates

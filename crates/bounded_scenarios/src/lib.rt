@@ -4,7 +4,7 @@
 
 mod bounding;
 mod copies;
-mod joint;
+mod merged;
 pub mod laws;
 mod naming;
 mod shared_channel;

@@ -7,7 +7,7 @@ ghost use Rattle.storage.specs.Steps.{IsCorner};
 ghost use Rattle.bounded_scenarios.specs.SharedChannels.{shared_channels};
 ghost use Rattle.bounded_scenarios.specs.Boundings.{looped_tokens};
 
-use crate::joint::{is_looped, joint_of};
+use crate::merged::{is_looped, merged_of};
 use levels::ChannelStep;
 use sd_base::{NoMemory, Rows, ScenarioFile};
 use std::alloc::Global;
@@ -28,10 +28,10 @@ pub fn channel_steps(alloc: Global, file: &ScenarioFile) -> Result<Rows<ChannelS
 {
     let mut steps = Rows::new(alloc);
     for row in file.shared.as_slice() {
-        let joint = joint_of(alloc, file.scenarios.as_slice(), row)?;
+        let merged = merged_of(alloc, file.scenarios.as_slice(), row)?;
         steps.push(ChannelStep {
             size: 1,
-            step: joint.step(),
+            step: merged.step(),
         })?;
     }
     Ok(steps)
@@ -46,8 +46,8 @@ pub fn corner_of(alloc: Global, file: &ScenarioFile) -> Result<Corner, NoMemory>
     let mut capacities = Rows::new(alloc);
     let mut total = 0;
     for row in file.shared.as_slice() {
-        let joint = joint_of(alloc, file.scenarios.as_slice(), row)?;
-        let entry = joint.corner();
+        let merged = merged_of(alloc, file.scenarios.as_slice(), row)?;
+        let entry = merged.corner();
         total += entry.unwrap_or(0);
         capacities.push(entry)?;
     }

@@ -4,7 +4,7 @@ use Rattle.std.proofs.Math.ListN.{replicate}
 use Rattle.std.proofs.lemmas.Bool.{cases_lt}
 use Rattle.std.proofs.lemmas.List.{length-replicate}
 use Rattle.sd_base.specs.Net.{Net}
-use Rattle.sd_base.proofs.Lists.{replicate-same}
+use Rattle.sd_base.proofs.ElementsKeepPlaces.{replicate-same}
 use Rattle.storage.specs.Distributions.{storage_of}
 use Rattle.storage.specs.StorageOrder.{stepped}
 use Rattle.cert_text.specs.declared.certificates.MemberLine.{MemberLine}
@@ -13,7 +13,7 @@ use Rattle.cert_checker.specs.declared.known.Known.{Known}
 use Rattle.cert_checker.specs.ShownChannels.{Shows, member_at}
 use Rattle.cert_checker.specs.inside.KnownSets.{AreMembers, IsChild, IsChildOfFirst, number_of}
 use Rattle.cert_checker.specs.inside.Marks.{mark_at}
-use Rattle.cert_checker.proofs.Glue.{no-child, one-child}
+use Rattle.cert_checker.proofs.AnswersJudgeLines.{no-child, one-child}
 use Rattle.cert_checker.proofs.KnownLists.{number-tells}
 
 abbrev Caps : Type 0

@@ -3,7 +3,7 @@ use Rattle.std.proofs.Common.{◌≡◌, ℕ, zero, suc, ◌≤◌, ◌<◌, ◌
 use Rattle.std.specs.Prelude.{IsTrue, false, slice_get, slice_index_or}
 use Rattle.sd_base.specs.Net.{Channel, nowhere}
 use Rattle.storage.specs.Distributions.{IsDistribution}
-use Rattle.storage.proofs.Enlarging.{distribution-length}
+use Rattle.storage.proofs.EnlargingAddsRoom.{distribution-length}
 use Rattle.cert_checker.specs.inside.Entries.{Fits}
 
 pub fits-distribution : (cs : List Channel) (ds : List (Option ℕ)) → length ds ≤ length cs → ((i : ℕ) → i < length cs → Fits (slice_index_or cs i nowhere) (slice_get ds i)) → IsDistribution cs ds

@@ -4,9 +4,9 @@ use Rattle.sd_base.specs.declared.limits.TheConstants.{NET_CHANNELS, STORAGE}
 use Rattle.sd_base.specs.Net.{Net}
 use Rattle.storage.specs.BoundedNets.{HasNoSpaces, bound}
 use Rattle.storage.specs.Distributions.{CanHold}
-use Rattle.storage.proofs.Enlarging.{distribution-length}
+use Rattle.storage.proofs.EnlargingAddsRoom.{distribution-length}
 use Rattle.storage.proofs.FileChannels.{plain-no_spaces}
-use Rattle.storage.proofs.Fits.{can-hold}
+use Rattle.storage.proofs.DistributionsShareLaws.{can-hold}
 use Rattle.storage.proofs.SpaceChannels.{bound-long, few-spaces}
 use Rattle.cert_checker.specs.ShownChannels.{IsWithin}
 use Rattle.cert_checker.specs.StorageCertificates.{IsFileNet}

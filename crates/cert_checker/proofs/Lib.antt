@@ -1,19 +1,19 @@
-pub mod Showing
-pub mod Along
-pub mod Connected
+pub mod SchedulesShowRates
+pub mod LinksFixSteps
+pub mod PathsJoinActors
 pub mod RateFaults
 pub mod RateClaims
 pub mod BuffersHeld
-pub mod Marking
+pub mod MarksShowReached
 pub mod WalkTimes
-pub mod Listing
+pub mod PotentialListsDecide
 pub mod ScenarioFaults
 pub mod WorstClaims
 pub mod ShownLists
 pub mod FileNets
 pub mod TradeOffs
-pub mod Glue
-pub mod SpelledLines
+pub mod AnswersJudgeLines
+pub mod LinesFitTexts
 pub mod TradeOffFaults
 pub mod StorageFirsts
 pub mod TradeOffFirsts
@@ -25,4 +25,4 @@ pub mod BestRates
 pub mod LinkMaps
 pub mod EdgeWeights
 mod ToldLines
-mod Fitting
+mod PotentialsFitEdges

@@ -9,7 +9,7 @@ use Rattle.sd_base.specs.Net.{Net}
 use Rattle.sd_base.specs.Lawful.{Lawful}
 use Rattle.sd_base.specs.Rates.{Rate}
 use Rattle.periodic.specs.ScheduleLines.{LineHolds}
-use Rattle.periodic.proofs.Lines.{lines_decide}
+use Rattle.periodic.proofs.RightLinesDecide.{lines_decide}
 use Rattle.cert_text.specs.declared.certificates.RateCertificate.{RateCertificate}
 use Rattle.cert_checker.specs.LinkCycles.{IsCycleLine}
 use Rattle.cert_checker.specs.Schedules.{IsRateLine, IsScheduleLine}

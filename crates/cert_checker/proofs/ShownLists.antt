@@ -10,7 +10,7 @@ use Rattle.sd_base.specs.Lawful.{Lawful}
 use Rattle.sd_base.specs.Rates.{Rate}
 use Rattle.sd_base.specs.Schedules.{Lacks, Needs}
 use Rattle.sd_base.specs.Untimed.{Blocks, CanFire}
-use Rattle.sd_base.proofs.Parts.{timed, wired, balanced}
+use Rattle.sd_base.proofs.LawfulIsRegular.{timed, wired, balanced}
 use Rattle.critical.specs.Bounds.{CyclesBoundTheRate}
 use Rattle.critical.specs.declared.cycle.CycleStep.{CycleStep}
 use Rattle.critical.specs.Cycles.{HoldsOn}
@@ -20,9 +20,9 @@ use Rattle.storage.specs.ClosedLists.{AgreesOn}
 use Rattle.storage.specs.Distributions.{AtMost, capacity_at}
 use Rattle.storage.specs.ShownSpaces.{ShowsSpace}
 use Rattle.storage.proofs.BoundedChannels.{space-bounded}
-use Rattle.storage.proofs.Cycling.{holds-on}
-use Rattle.storage.proofs.Kept.{blocks-still, can_or_lacks}
-use Rattle.storage.proofs.Zeros.{blocked-zero}
+use Rattle.storage.proofs.NeedCyclesHold.{holds-on}
+use Rattle.storage.proofs.BlockingStays.{blocks-still, can_or_lacks}
+use Rattle.storage.proofs.BlockingForcesZero.{blocked-zero}
 use Rattle.cert_text.specs.declared.certificates.LinkCycle.{LinkCycle}
 use Rattle.cert_text.specs.declared.certificates.LinkStep.{LinkStep}
 use Rattle.cert_text.specs.declared.certificates.MemberShown.{MemberShown}

@@ -9,7 +9,7 @@ use Rattle.cert_checker.specs.declared.verdict.Verdict.{Verdict}
 use Rattle.cert_checker.specs.declared.verdict.Verdict.TheVariants.{Accepted, Rejected}
 use Rattle.cert_checker.specs.Verdicts.{IsFirst, IsToldAs, IsToldVerdict, IsVerdict}
 use Rattle.cert_checker.specs.StorageLines.{end_line}
-use Rattle.cert_checker.specs.StorageFaults.{IsTradeOffFault, touched, limit, corner, of_member, covered, of_point}
+use Rattle.cert_checker.specs.StorageFaults.{IsTradeOffFault, incident, limit, corner, of_member, covered, of_point}
 use Rattle.cert_checker.specs.inside.FirstFaults.{kept_number}
 use Rattle.cert_checker.proofs.StorageFirsts.{member-inside, member-place, point-inside, point-place}
 
@@ -36,7 +36,7 @@ module _ (F : ℕ → Reason → Type 0) (shown : Claim → Type 0) where
 
 -- a faulty line is one of the certificate's
 pub fault-inside : (net : Net) (version : ℕ) (c : StorageCertificate) (l : ℕ) (r : Reason) → IsTradeOffFault net version c l r → l ≤ end_line version c
-fault-inside net version c l r (touched h il ir) = omega (arith, il)
+fault-inside net version c l r (incident h il ir) = omega (arith, il)
 fault-inside net version c l r (limit h il ir) = omega (arith, il)
 fault-inside net version c l r (corner h il ir) = omega (arith, il)
 fault-inside net version c l r (of_member i place low fault il) = omega (arith, il, member-place net version c i place r fault, member-inside version c i low)

@@ -12,7 +12,7 @@ use Rattle.cert_checker.specs.LinkCycles.{IsCycleLine}
 use Rattle.cert_checker.specs.Schedules.{IsRateLine}
 use Rattle.cert_checker.specs.ShownChannels.{capacities_at, member_at}
 use Rattle.cert_checker.specs.StorageCertificates.{AreBlocking, IsMemberRight, IsPointRight, IsScheduleRight, IsShownRight, IsTradeOff}
-use Rattle.cert_checker.specs.StorageFaults.{IsCountsFault, IsCycleFault, IsMemberFault, IsPointFault, IsScheduleFault, IsShownFault, IsTradeOffFault, rate, cycle, counts, member, closure, shown, schedule, starts, point, reaches, touched, limit, corner, of_member, covered, of_point}
+use Rattle.cert_checker.specs.StorageFaults.{IsCountsFault, IsCycleFault, IsMemberFault, IsPointFault, IsScheduleFault, IsShownFault, IsTradeOffFault, rate, cycle, counts, member, closure, shown, schedule, starts, point, reaches, incident, limit, corner, of_member, covered, of_point}
 
 pub no-cycle : (net : Net) (version : ℕ) (x : ℕ × ℕ) (links : LinkCycle) → IsRateLine x × IsCycleLine net x links → (l : ℕ) (r : Reason) → IsCycleFault net version x links l r → ⊥
 no-cycle net version x links is l r (rate h il ir) = h is.0
@@ -39,7 +39,7 @@ no-point net c i is l r (point h il ir) = h is.point
 no-point net c i is l r (reaches fault) = no-schedule _ _ is.schedule l r fault
 
 pub faultless : (net : Net) (version : ℕ) (c : StorageCertificate) → IsTradeOff net c → (l : ℕ) (r : Reason) → IsTradeOffFault net version c l r → ⊥
-faultless net version c is l r (touched h il ir) = h is.touched
+faultless net version c is l r (incident h il ir) = h is.incident
 faultless net version c is l r (limit h il ir) = omega (arith, h, is.limit)
 faultless net version c is l r (corner h il ir) = h is.corner
 faultless net version c is l r (of_member i at below fault il) = no-member net version c i (is.members i below) at r fault

@@ -5,9 +5,9 @@ use Rattle.std.proofs.lemmas.List.{get_or-map, length-map}
 use Rattle.sd_base.specs.Net.{Net, channel_at}
 use Rattle.sd_base.specs.Lawful.{Lawful}
 use Rattle.sd_base.specs.Rates.{Rate}
-use Rattle.sd_base.proofs.Lists.{some-within}
+use Rattle.sd_base.proofs.ElementsKeepPlaces.{some-within}
 use Rattle.critical.specs.Bounds.{CyclesBoundTheRate}
-use Rattle.periodic.proofs.Lines.{lines_decide}
+use Rattle.periodic.proofs.RightLinesDecide.{lines_decide}
 use Rattle.storage.specs.BoundedNets.{HasNoSpaces, bound}
 use Rattle.storage.specs.ClosedLists.{Entry, HasEntry, IsClosed, IsFrontOver, entry_at}
 use Rattle.storage.specs.Distributions.{capacity_at, storage_of}
@@ -15,12 +15,12 @@ use Rattle.storage.specs.ParetoPoints.{IsFront, IsReachedPair, no_pair}
 use Rattle.storage.specs.Steps.{IsCorner, IsOnGrid, step_of}
 use Rattle.storage.proofs.ChannelSteps.{some-step}
 use Rattle.storage.proofs.CornerLists.{corner-grid}
-use Rattle.storage.proofs.Covers.{BoundsRoomier, net-above, net-bounds}
-use Rattle.storage.proofs.Enlarging.{distribution-length, enlarged-grid, enlarged-storage}
+use Rattle.storage.proofs.MembersCover.{BoundsRoomier, net-above, net-bounds}
+use Rattle.storage.proofs.EnlargingAddsRoom.{distribution-length, enlarged-grid, enlarged-storage}
 use Rattle.storage.proofs.FrontsFromMembers.{front-over, less_on}
-use Rattle.storage.proofs.Lawfulness.{bound-lawful}
+use Rattle.storage.proofs.BoundingKeepsLaws.{bound-lawful}
 use Rattle.storage.proofs.SpacesJoinEnds.{bound-strong}
-use Rattle.storage.proofs.TouchedInputs.{touched-inputs}
+use Rattle.storage.proofs.IncidentInputs.{incident-inputs}
 use Rattle.storage.specs.StorageOrder.{stepped}
 use Rattle.cert_text.specs.declared.certificates.MemberShown.{MemberShown}
 use Rattle.cert_text.specs.declared.certificates.MemberShown.TheVariants.{Cycle, Blocked}
@@ -173,7 +173,7 @@ module _ (cycles_bound : CyclesBoundTheRate) (rates : RateIsShown) (net : Net) (
         let holds = (lines_decide (bound net (capacities_of c i)) (point_at c.points i).schedule.period (point_at c.points i).schedule.rounds (point_at c.points i).schedule.starts laws' s.schedule.passes s.schedule.turns s.schedule.actors).0 (λ a actor. s.starts a (omega (arith, actor, s.schedule.actors))) in
         let rate : Rate (bound net (capacities_of c i)) (point_at c.points i).rate.0 (point_at c.points i).rate.1 =
         rates (bound net (capacities_of c i)) (point_at c.points i).schedule.period (point_at c.points i).schedule.rounds (point_at c.points i).schedule.starts l.6.cycle (point_at c.points i).rate.0 (point_at c.points i).rate.1 laws'
-        (touched-inputs net is.touched (capacities_of c i) fit.distribution) (bound-strong net (capacities_of c i) fit.distribution file.connected) holds l.6.is.holds
+        (incident-inputs net is.incident (capacities_of c i) fit.distribution) (bound-strong net (capacities_of c i) fit.distribution file.connected) holds l.6.is.holds
         (den-some i below) (rw (← l.3, ← l.4) l.5.lowest) s.schedule.ratio (rw (← l.3, ← l.4) l.6.is.ratio) in (
           capacities_of c i,
           record {

@@ -10,7 +10,7 @@ use Rattle.automaton.specs.WorstRates.{IsWorst}
 use Rattle.cert_checker.specs.Schedules.{IsRateLine}
 use Rattle.cert_checker.specs.ListedNodes.{IsClosedWalk, ListsNodes, FitsAt, potential_of}
 use Rattle.cert_checker.proofs.WalkTimes.{walked, critical-walk}
-use Rattle.cert_checker.proofs.Listing.{fit}
+use Rattle.cert_checker.proofs.PotentialListsDecide.{fit}
 
 -- a critical cycle and potentials that fit show the worst rate
 abbrev pub Law : Type 0

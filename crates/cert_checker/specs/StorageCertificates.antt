@@ -10,7 +10,7 @@ use Rattle.storage.specs.BoundedNets.{bound}
 use Rattle.storage.specs.Distributions.{IsPlain, storage_of}
 use Rattle.storage.specs.ParetoPoints.{IsFront, Pair}
 use Rattle.storage.specs.Steps.{IsCorner}
-use Rattle.storage.specs.TouchedActors.{AreTouched}
+use Rattle.storage.specs.IncidentActors.{AreIncident}
 use Rattle.storage.specs.StorageOrder.{IsBefore, stepped}
 use Rattle.cert_text.specs.declared.certificates.LinkCycle.{LinkCycle}
 use Rattle.cert_text.specs.declared.certificates.MemberShown.{MemberShown}
@@ -120,7 +120,7 @@ pub record IsPointRight (net : Net) (c : StorageCertificate) (i : ℕ) : Type 0 
 
 -- all lines are right
 pub record IsTradeOff (net : Net) (c : StorageCertificate) : Type 0 where
-  pub touched : AreTouched net
+  pub incident : AreIncident net
   pub limit : c.limit ≤ STORAGE
   pub corner : BeginsAtCorner net c
   pub members : (i : ℕ) → i < length c.members → IsMemberRight net c i

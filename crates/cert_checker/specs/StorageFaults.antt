@@ -6,7 +6,7 @@ use Rattle.sd_base.specs.Net.{Net}
 use Rattle.sd_base.specs.FileNet.{net_of}
 use Rattle.periodic.specs.ScheduleLines.{LineHolds}
 use Rattle.storage.specs.BoundedNets.{bound}
-use Rattle.storage.specs.TouchedActors.{AreTouched}
+use Rattle.storage.specs.IncidentActors.{AreIncident}
 use Rattle.cert_text.specs.declared.certificates.LinkCycle.{LinkCycle}
 use Rattle.cert_text.specs.declared.certificates.MemberShown.{MemberShown}
 use Rattle.cert_text.specs.declared.certificates.MemberShown.TheVariants.{Cycle, Blocked}
@@ -53,7 +53,7 @@ pub data IsPointFault (net : Net) (c : StorageCertificate) (i : ℕ) (place : �
 
 -- the faults of lines, of the net of a graph
 pub data IsTradeOffFault (net : Net) (version : ℕ) (c : StorageCertificate) (line : ℕ) (reason : Reason) : Type 0 where
-  touched : (AreTouched net → ⊥) → line ≡ 2 → reason ≡ reasons.Connection → IsTradeOffFault net version c line reason
+  incident : (AreIncident net → ⊥) → line ≡ 2 → reason ≡ reasons.Connection → IsTradeOffFault net version c line reason
   limit : STORAGE < c.limit → line ≡ 4 → reason ≡ reasons.Limit → IsTradeOffFault net version c line reason
   corner : (BeginsAtCorner net c → ⊥) → line ≡ members_line version c → reason ≡ reasons.Member → IsTradeOffFault net version c line reason
   of_member : (i place : ℕ) → i < length c.members → IsMemberFault net version c i place reason → line ≡ member_line version c i + place → IsTradeOffFault net version c line reason

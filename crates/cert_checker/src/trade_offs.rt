@@ -16,12 +16,12 @@ ghost use Rattle.cert_checker.specs.declared.verdict.Verdict.TheVariants.{Reject
 ghost use Rattle.cert_checker.specs.inside.FirstFaults.{AreMembersRight, ArePointsRight, IsFaultOfMembers, IsFaultOfPoints, JudgesTold, kept_number};
 
 use crate::fault::Fault;
+use crate::incident::are_incident;
 use crate::laws::trade_off_is_shown;
 use crate::listed::listed_of;
 use crate::members::member_fault;
 use crate::points::{are_below, point_fault};
 use crate::sizes::{cycles_size, member_size, point_size};
-use crate::touched::are_touched;
 use crate::verdict::{Claim, Reason, Verdict};
 use cert_text::StorageCertificate;
 use firing::{CsdfNet, Firing, know_laws};
@@ -70,7 +70,7 @@ fn check_trade_off<F: Firing>(
 {
     know_laws(net);
     trade_off_is_shown();
-    if !are_touched(net) {
+    if !are_incident(net) {
         return Ok(rejected(2, Reason::Connection));
     }
     if certificate.limit > STORAGE {

@@ -13,10 +13,10 @@ use Rattle.storage.specs.BoundedNets.{bound}
 use Rattle.storage.specs.ClosedLists.{Entry, HasEntry, IsClosed, entry_at, no_entry}
 use Rattle.storage.specs.Distributions.{IsDistribution, storage_of}
 use Rattle.storage.specs.Steps.{IsOnGrid}
-use Rattle.storage.proofs.Covers.{BoundsRoomier, net-above, net-bounds}
-use Rattle.storage.proofs.Lawfulness.{bound-lawful}
+use Rattle.storage.proofs.MembersCover.{BoundsRoomier, net-above, net-bounds}
+use Rattle.storage.proofs.BoundingKeepsLaws.{bound-lawful}
 use Rattle.storage.proofs.FrontsFromMembers.{positive-on}
-use Rattle.sd_base.proofs.Containing.{contains-unmap}
+use Rattle.sd_base.proofs.ContainedHavePlaces.{contains-unmap}
 use Rattle.storage.specs.StorageOrder.{stepped}
 use Rattle.pareto_front.specs.declared.point.Point.{Point}
 use Rattle.explore.specs.declared.exploration.Member.{Member}
@@ -30,7 +30,7 @@ use Rattle.cert_maker.specs.StorageCertificates.{IsMemberLine, IsShownBy, IsStor
 use Rattle.cert_maker.proofs.MemberLines.{line-of}
 use Rattle.cert_maker.proofs.MemberOrder.{member-fits, member-grid, none}
 use Rattle.cert_maker.proofs.ShownLines.{line-shows, listed-rate, shown-right}
-use Rattle.cert_maker.proofs.Zipped.{PlaceOf, zip-at, zip-chosen, zip-one}
+use Rattle.cert_maker.proofs.ZippedPlacesAgree.{PlaceOf, zip-at, zip-chosen, zip-one}
 
 -- a bound of 0 allows no other rate
 zero-bound : (p d n q : ℕ) → n < 1 → 1 ≤ d → p * d ≤ n * q → p ≡ 0

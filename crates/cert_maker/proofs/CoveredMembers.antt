@@ -11,10 +11,10 @@ use Rattle.periodic.specs.declared.schedule.Periodic.{Periodic}
 use Rattle.storage.specs.ClosedLists.{Entry, entry_at, no_entry}
 use Rattle.storage.specs.Distributions.{storage_of}
 use Rattle.storage.specs.ParetoPoints.{IsPareto, IsReachedPair, Pair, no_pair}
-use Rattle.storage.proofs.Climbs.{storage-le}
-use Rattle.storage.proofs.Covers.{covered}
+use Rattle.storage.proofs.StepsReachMembers.{storage-le}
+use Rattle.storage.proofs.MembersCover.{covered}
 use Rattle.storage.proofs.FrontsFromMembers.{positive-on}
-use Rattle.sd_base.proofs.Containing.{contains-map, contains-unmap}
+use Rattle.sd_base.proofs.ContainedHavePlaces.{contains-map, contains-unmap}
 use Rattle.pareto_front.specs.declared.point.Point.{Point}
 use Rattle.explore.specs.declared.exploration.Member.{Member}
 use Rattle.explore.specs.Explorations.{IsExploration, pair_of}
@@ -23,8 +23,8 @@ use Rattle.cert_checker.specs.StorageCertificates.{IsFileNet}
 use Rattle.cert_maker.specs.StorageCertificates.{IsStorageCertificate}
 use Rattle.cert_maker.proofs.ClosedMembers.{IsEntryOf, closed-members, entries}
 use Rattle.cert_maker.proofs.MemberOrder.{member-fits}
-use Rattle.cert_maker.proofs.Summits.{IsSummit, NoWorse, beats-under, climb}
-use Rattle.cert_maker.proofs.Zipped.{zip-at}
+use Rattle.cert_maker.proofs.PairsReachSummits.{IsSummit, NoWorse, beats-under, climb}
+use Rattle.cert_maker.proofs.ZippedPlacesAgree.{zip-at}
 
 -- the storage and the rate of a member
 abbrev pub member-pair : Net → Member → Pair

@@ -9,7 +9,7 @@ use Rattle.automaton.specs.TimedGraphs.{IsTimedGraph}
 use Rattle.automaton.specs.CriticalCycles.{Fit, IsReachedNode}
 use Rattle.scenario_rate.specs.Answers.{potential_at}
 use Rattle.cert_checker.specs.ListedNodes.{FitsAt, IsNode, ListsNodes, node_at}
-use Rattle.cert_checker.proofs.Listing.{listed}
+use Rattle.cert_checker.proofs.PotentialListsDecide.{listed}
 use Rattle.cert_maker.specs.WorstCertificates.{potentials_from}
 use Rattle.cert_maker.proofs.PlacedNodes.{reached-placed}
 use Rattle.cert_maker.proofs.ListedWalks.{is-node}

@@ -6,14 +6,14 @@ use Rattle.std.proofs.lemmas.Option.{slice_get_within}
 use Rattle.std.specs.Prelude.{Contains}
 use Rattle.sd_base.specs.declared.limits.Limits.{Limits}
 use Rattle.sd_base.specs.Net.{Net}
-use Rattle.sd_base.proofs.Lists.{get-map}
-use Rattle.sd_base.proofs.Truths.{one-some}
+use Rattle.sd_base.proofs.ElementsKeepPlaces.{get-map}
+use Rattle.sd_base.proofs.ByteTestsDecide.{one-some}
 use Rattle.periodic.specs.declared.schedule.Periodic.{Periodic}
 use Rattle.storage.specs.declared.distribution.Distribution.{Distribution}
 use Rattle.storage.specs.BoundedNets.{bound}
 use Rattle.storage.specs.Distributions.{storage_of}
 use Rattle.storage.specs.Steps.{IsCorner}
-use Rattle.sd_base.proofs.Containing.{contains-unmap, get-contains}
+use Rattle.sd_base.proofs.ContainedHavePlaces.{contains-unmap, get-contains}
 use Rattle.storage.specs.StorageOrder.{IsBefore, stepped}
 use Rattle.pareto_front.specs.declared.point.Point.{Point}
 use Rattle.explore.specs.declared.exploration.Member.{Member}
@@ -23,11 +23,11 @@ use Rattle.cert_text.specs.declared.certificates.StorageCertificate.{StorageCert
 use Rattle.cert_checker.specs.ShownChannels as checked
 use Rattle.cert_checker.specs.ShownChannels.{IsMember, IsWithin, Shows, capacities_at, member_at, no_member}
 use Rattle.cert_checker.specs.StorageCertificates.{BeginsAtCorner, HasParent, IsClosedAt, IsFileNet, IsMemberRight, IsShownRight}
-use Rattle.cert_checker.proofs.Glue.{corner-one}
+use Rattle.cert_checker.proofs.AnswersJudgeLines.{corner-one}
 use Rattle.cert_maker.specs.StorageCertificates.{IsMemberLine, IsStorageCertificate}
 use Rattle.cert_maker.proofs.MemberOrder.{corner-first, first-is-corner, member-fits, none, none-below, order-at}
 use Rattle.cert_maker.proofs.ShownLines.{line-shows, shown-right, shows-line}
-use Rattle.cert_maker.proofs.Zipped.{PlaceOf, ZipAt, zip-at, zip-long, zip-one}
+use Rattle.cert_maker.proofs.ZippedPlacesAgree.{PlaceOf, ZipAt, zip-at, zip-long, zip-one}
 
 module _ (net : Net) (file : IsFileNet net) (limits : Limits) (ms : List Member) (ps : List Point) (is : IsExploration net limits ms ps)
     (no_overlap : Bool) (schedules : List Periodic) (c : StorageCertificate) (put : IsStorageCertificate net no_overlap limits.total ms ps schedules c) where

@@ -6,7 +6,7 @@ use Rattle.std.proofs.lemmas.Option.{slice_get_within}
 use Rattle.std.specs.Prelude.{Contains}
 use Rattle.sd_base.specs.declared.limits.Limits.{Limits}
 use Rattle.sd_base.specs.Net.{Net, channel_at}
-use Rattle.sd_base.proofs.Lists.{get-there}
+use Rattle.sd_base.proofs.ElementsKeepPlaces.{get-there}
 use Rattle.storage.specs.BoundedNets.{HasNoSpaces}
 use Rattle.storage.specs.CapacityOrder.{no_later}
 use Rattle.storage.specs.Distributions.{IsDistribution, storage_of}
@@ -14,17 +14,17 @@ use Rattle.storage.specs.Steps.{IsCorner, IsOnGrid, step_of}
 use Rattle.storage.proofs.CapacityOrder.{no_later-refl}
 use Rattle.storage.proofs.ChannelSteps.{some-step}
 use Rattle.storage.proofs.CornerLists.{corner-grid}
-use Rattle.storage.proofs.Enlarging.{enlarged-grid, enlarged-storage}
-use Rattle.sd_base.proofs.Containing.{contains-map, contains-get, get-contains}
+use Rattle.storage.proofs.EnlargingAddsRoom.{enlarged-grid, enlarged-storage}
+use Rattle.sd_base.proofs.ContainedHavePlaces.{contains-map, contains-get, get-contains}
 use Rattle.storage.specs.StorageOrder.{AreInOrder, IsBefore, stepped}
 use Rattle.pareto_front.specs.declared.point.Point.{Point}
 use Rattle.explore.specs.declared.exploration.Member.{Member}
 use Rattle.explore.specs.Explorations.{IsExploration, ShowsChannel, capacities_of}
 use Rattle.explore.specs.Reachable.{IsReachable, corner, next}
-use Rattle.explore.proofs.Explorable.{reachable-fits}
+use Rattle.explore.proofs.IncidentNetsExplorable.{reachable-fits}
 use Rattle.cert_checker.specs.StorageCertificates.{IsFileNet}
 use Rattle.cert_checker.proofs.FileNets.{no-spaces}
-use Rattle.cert_checker.proofs.Glue.{corner-one}
+use Rattle.cert_checker.proofs.AnswersJudgeLines.{corner-one}
 use Rattle.cert_maker.proofs.ShownLines.{shows-bounded}
 
 -- what stands earlier is before what stands later

@@ -6,12 +6,12 @@ use Rattle.std.proofs.lemmas.Option.{slice_get_within, same_Some}
 use Rattle.sd_base.specs.declared.tables.ScenarioFile.{ScenarioFile}
 use Rattle.sd_base.specs.declared.tables.StateRow.{StateRow}
 use Rattle.sd_base.specs.Scenarios.{shared_count}
-use Rattle.sd_base.proofs.Lists.{get-there}
+use Rattle.sd_base.proofs.ElementsKeepPlaces.{get-there}
 use Rattle.automaton.specs.declared.graph.Edge.{Edge}
 use Rattle.automaton.specs.declared.graph.TimedGraph.{TimedGraph}
 use Rattle.automaton.specs.TimedGraphs.{IsTimedGraph}
 use Rattle.automaton.specs.CriticalCycles.{IsPath, IsReachedNode}
-use Rattle.automaton.proofs.Members.{Has, get-has, from-from, FromStates}
+use Rattle.automaton.proofs.EdgesComeFromEntries.{Has, get-has, from-from, FromStates}
 
 -- node v is that of a state and a token
 pub record IsPlaced (states n v : ℕ) : Type 0 where

@@ -11,11 +11,11 @@ use Rattle.sd_base.specs.Lawful.{Lawful}
 use Rattle.sd_base.specs.Net.{Net}
 use Rattle.sd_base.specs.Rates.{Rate}
 use Rattle.sd_base.proofs.LoopRates.{one-rate}
-use Rattle.sd_base.proofs.Lists.{get-map}
-use Rattle.sd_base.proofs.Truths.{one-some}
+use Rattle.sd_base.proofs.ElementsKeepPlaces.{get-map}
+use Rattle.sd_base.proofs.ByteTestsDecide.{one-some}
 use Rattle.critical.specs.Bounds.{CyclesBoundTheRate}
 use Rattle.periodic.specs.declared.schedule.Periodic.{Periodic}
-use Rattle.periodic.proofs.Lines.{lines_decide}
+use Rattle.periodic.proofs.RightLinesDecide.{lines_decide}
 use Rattle.storage.specs.BoundedNets.{bound}
 use Rattle.storage.specs.Distributions.{storage_of}
 use Rattle.storage.specs.ParetoPoints.{IsPareto, Pair, no_pair}
@@ -34,8 +34,8 @@ use Rattle.cert_maker.proofs.CoveredMembers.{member-covered, member-pair}
 use Rattle.cert_maker.proofs.MemberLines.{many, member-of, member-right, place-of, same-capacities}
 use Rattle.cert_maker.proofs.MemberOrder.{member-fits}
 use Rattle.cert_maker.proofs.ShownLines.{listed-rate, shown-rate}
-use Rattle.cert_maker.proofs.Summits.{NoWorse}
-use Rattle.cert_maker.proofs.Zipped.{ZipAt, zip-at, zip-long, zip-mapped}
+use Rattle.cert_maker.proofs.PairsReachSummits.{NoWorse}
+use Rattle.cert_maker.proofs.ZippedPlacesAgree.{ZipAt, zip-at, zip-long, zip-mapped}
 
 -- a rate by its parts
 same-rate : (a b x y : ℕ) (r : ℕ × ℕ) → a ≡ x → b ≡ y → r ≡ (x, y) → (a, b) ≡ r

@@ -8,7 +8,7 @@ use Rattle.sd_base.specs.Net.{Net}
 use Rattle.sd_base.specs.Rates.{Rate}
 use Rattle.cert_text.specs.declared.certificates.LinkStep.{LinkStep}
 use Rattle.critical.specs.Spaces.{no_step}
-use Rattle.critical.proofs.Storage.{chain-places}
+use Rattle.critical.proofs.ListedSpacesRise.{chain-places}
 use Rattle.storage.specs.BoundedNets.{HasNoSpaces, bound}
 use Rattle.storage.specs.ShownSpaces.{ShowsSpace}
 use Rattle.storage.proofs.BoundedChannels.{IsBounded, space-bounded}

@@ -15,7 +15,7 @@ use Rattle.sd_base.specs.Lawful.{Lawful}
 use Rattle.periodic.specs.declared.schedule.Periodic.{Periodic}
 use Rattle.periodic.specs.Periods.{Holds}
 use Rattle.periodic.specs.ScheduleLines.{LineHolds}
-use Rattle.periodic.proofs.Lines.{lines_decide}
+use Rattle.periodic.proofs.RightLinesDecide.{lines_decide}
 use Rattle.critical.specs.declared.cycle.CycleStep.{CycleStep}
 use Rattle.critical.specs.declared.cycle.FiringNo.{FiringNo}
 use Rattle.critical.specs.declared.cycle.NeedCycle.{NeedCycle}

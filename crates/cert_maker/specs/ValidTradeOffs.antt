@@ -9,7 +9,7 @@ use Rattle.sd_base.specs.Net.{Net}
 use Rattle.periodic.specs.declared.schedule.Periodic.{Periodic}
 use Rattle.periodic.specs.Periods.{Holds}
 use Rattle.storage.specs.BoundedNets.{bound}
-use Rattle.storage.specs.TouchedActors.{AreTouched}
+use Rattle.storage.specs.IncidentActors.{AreIncident}
 use Rattle.pareto_front.specs.declared.point.Point.{Point}
 use Rattle.explore.specs.declared.exploration.Member.{Member}
 use Rattle.explore.specs.Explorations.{IsExploration}
@@ -28,7 +28,7 @@ pub record IsReachedBy (net : Net) (p : Point) (s : Periodic) : Type 0 where
 abbrev pub TradeOffsAreValid : Type 0
 TradeOffsAreValid =
     (graph : GraphFile) (gamma : List ℕ) (no_overlap : Bool) (limits : Limits) (members : List Member) (points : List Point) (schedules : List Periodic) (c : StorageCertificate)
-    → IsFileNet (net_of graph gamma no_overlap) → AreTouched (net_of graph gamma no_overlap) → limits.total ≤ STORAGE
+    → IsFileNet (net_of graph gamma no_overlap) → AreIncident (net_of graph gamma no_overlap) → limits.total ≤ STORAGE
     → IsExploration (net_of graph gamma no_overlap) limits members points → AllZip (IsReachedBy (net_of graph gamma no_overlap)) points schedules
     → IsStorageCertificate (net_of graph gamma no_overlap) no_overlap limits.total members points schedules c
     → (version line : ℕ) (reason : Reason) → IsStorageFault graph gamma version c line reason → ⊥

@@ -10,7 +10,7 @@ use Rattle.std.proofs.lemmas.List.{append-nil}
 use Rattle.std.proofs.lemmas.List.Folds.{list_any-append}
 use Rattle.std.proofs.lemmas.Map.Text.{is_eq-slice_cmp}
 use Rattle.std.proofs.lemmas.Slice.Eq.{bytes_eq-Decides}
-use Rattle.sd_base.proofs.Truths.{same_bytes}
+use Rattle.sd_base.proofs.ByteTestsDecide.{same_bytes}
 use Rattle.cert_text.specs.declared.certificates.LinkCycle.{LinkCycle}
 use Rattle.cert_text.specs.declared.reading.fault.Fault.{Fault}
 use Rattle.cert_text.specs.declared.reading.fault.Fault.TheVariants.{Memory}

@@ -7,7 +7,7 @@ use Rattle.sd_base.specs.declared.limits.TheConstants.{CERTIFICATE_BYTES}
 use Rattle.cert_text.specs.declared.error.CertError.{CertError}
 use Rattle.cert_text.specs.declared.error.CertError.TheVariants.{TooLong}
 use Rattle.cert_text.specs.Overlong.{GivesUp}
-use Rattle.cert_text.proofs.Texts.{flat-item}
+use Rattle.cert_text.proofs.PiecesMakeTexts.{flat-item}
 
 flat-most : {X : Type 0} (f : X → List ℕ) (xs : List X) (n : ℕ) → length (flat_map f (take n xs)) ≤ length (flat_map f xs)
 flat-most {X} f xs n =

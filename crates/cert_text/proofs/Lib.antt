@@ -1,12 +1,12 @@
-pub mod Numerals
-pub mod Texts
-pub mod Uses
-pub mod Wholes
-pub mod Behind
+pub mod DigitsSpellValues
+pub mod PiecesMakeTexts
+pub mod MembersNameInOrder
+pub mod LinesMakeCertificates
+pub mod WordsLeaveTheRest
 pub mod TextLines
-pub mod Entries
-pub mod Times
-pub mod Rising
+pub mod EntriesAreReadInTurn
+pub mod RepeatedReadsGoOn
+pub mod BuffersRise
 pub mod FoundCycles
 pub mod ListedCycles
 pub mod ReadNumbers
@@ -20,5 +20,5 @@ pub mod SoundEntries
 pub mod SoundSections
 pub mod SoundMembers
 pub mod SoundWholes
-pub mod Within
+pub mod WrittenIsWithinLimits
 pub mod GivenUp

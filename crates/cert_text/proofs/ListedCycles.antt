@@ -18,8 +18,8 @@ use Rattle.cert_text.specs.Sections.{place_of, same_cycle, with_cycle}
 use Rattle.cert_text.specs.Spellable.{IsCycleText}
 use Rattle.cert_text.specs.Spelling.{cycle_list, member_list}
 use Rattle.cert_text.proofs.FoundCycles.{differ-more}
-use Rattle.cert_text.proofs.Texts.{all-pushed}
-use Rattle.cert_text.proofs.Uses.{used_next}
+use Rattle.cert_text.proofs.PiecesMakeTexts.{all-pushed}
+use Rattle.cert_text.proofs.MembersNameInOrder.{used_next}
 
 -- one that is known stands at its place, by its text
 abbrev StandsAt : List LinkCycle → LinkCycle → List LinkCycle → ℕ → Type 0

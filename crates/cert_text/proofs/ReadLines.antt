@@ -18,7 +18,7 @@ use Rattle.cert_text.specs.Reads.{lines_of, onto, next_by}
 use Rattle.cert_text.specs.ScenarioLines.{node_line, nodes_header, potential_line}
 use Rattle.cert_text.specs.ScheduleLines.{schedule_header}
 use Rattle.cert_text.proofs.ReadNumbers.{behind-front, number-front, long-front, digits-of, not-hyphen, all_digits}
-use Rattle.cert_text.proofs.Texts.{version-small}
+use Rattle.cert_text.proofs.PiecesMakeTexts.{version-small}
 
 -- ---- lines
 

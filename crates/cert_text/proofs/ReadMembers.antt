@@ -29,7 +29,7 @@ use Rattle.cert_text.proofs.ReadLines.{next-line, worded-closes, worded-read, ov
 use Rattle.cert_text.proofs.ReadEntries.{numbers-read, numbers-close, capacities-read, capacities-close, same-text}
 use Rattle.cert_text.proofs.ReadSections.{IsGoodCycle, IsGoodPoint, cycle-back, points-back, end-begins, finish-back}
 use Rattle.cert_text.proofs.ListedCycles.{new-at}
-use Rattle.cert_text.proofs.Uses.{names, used_next}
+use Rattle.cert_text.proofs.MembersNameInOrder.{names, used_next}
 
 -- ---- cycles with one text are one
 

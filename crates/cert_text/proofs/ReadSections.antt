@@ -25,7 +25,7 @@ use Rattle.cert_text.specs.Spelling.{end_line, point_list, potential_list}
 use Rattle.cert_text.proofs.ReadNumbers.{digits-of, digit-yes}
 use Rattle.cert_text.proofs.ReadLines.{next-line, worded-closes, worded-read, overlap-closes, overlap-read, rate-closes, rate-read, point-closes, point-read, schedule-closes, schedule-read, header-closes, header-read, step-closes, step-read, node-closes, node-read, nodes-closes, nodes-read, potential-closes, potential-read}
 use Rattle.cert_text.proofs.ReadEntries.{numbers-read, numbers-close, buffers-read, buffers-close}
-use Rattle.cert_text.proofs.Times.{begins}
+use Rattle.cert_text.proofs.RepeatedReadsGoOn.{begins}
 
 -- ---- so many times
 

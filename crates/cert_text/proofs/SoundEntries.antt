@@ -13,9 +13,9 @@ use Rattle.cert_text.specs.LineForms.{buffer_in, buffer_limited, buffers_due, ca
 use Rattle.cert_text.specs.MemberLines.{member_line}
 use Rattle.cert_text.specs.Reads.{◌>>=◌}
 use Rattle.cert_text.specs.Spellable.{Rise}
-use Rattle.cert_text.proofs.Entries.{bind-ok, limited-is, capacities-sound}
-use Rattle.cert_text.proofs.Rising.{if_rising, buffers-sound}
-use Rattle.cert_text.proofs.Behind.{fine, ok-is}
+use Rattle.cert_text.proofs.EntriesAreReadInTurn.{bind-ok, limited-is, capacities-sound}
+use Rattle.cert_text.proofs.BuffersRise.{if_rising, buffers-sound}
+use Rattle.cert_text.proofs.WordsLeaveTheRest.{fine, ok-is}
 
 each-fits : {A : Type 0} (f : A → Result A Fault) (P : A → Type 0) → ((n x : A) → f n ≡ Ok x → P x) → (ns xs : List A) → each_by f ns ≡ Ok xs → AllByRecursion P xs
 unfolding each_by

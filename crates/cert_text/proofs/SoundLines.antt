@@ -21,9 +21,9 @@ use Rattle.cert_text.specs.Reads.{◌>>=◌}
 use Rattle.cert_text.specs.ScenarioLines.{node_line, nodes_header, potential_line}
 use Rattle.cert_text.specs.ScheduleLines.{schedule_header}
 use Rattle.cert_text.specs.Spellable.{HasText}
-use Rattle.cert_text.proofs.Behind.{behind-sound, ended-sound, fine, ok-is}
-use Rattle.cert_text.proofs.Entries.{bind-ok, limited-is, worded-number-sound}
-use Rattle.cert_text.proofs.Numerals.{number-sound}
+use Rattle.cert_text.proofs.WordsLeaveTheRest.{behind-sound, ended-sound, fine, ok-is}
+use Rattle.cert_text.proofs.EntriesAreReadInTurn.{bind-ok, limited-is, worded-number-sound}
+use Rattle.cert_text.proofs.DigitsSpellValues.{number-sound}
 
 -- ---- lines of words and numbers
 

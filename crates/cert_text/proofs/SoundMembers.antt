@@ -23,7 +23,7 @@ use Rattle.cert_text.specs.Reads.{Reads, ◌>>=◌, in_front, next_by, handing}
 use Rattle.cert_text.specs.Sections.{cycle_from, same_cycle, place_of, with_cycle, new_cycle_from, new_cycles_from, cycles_from, blocked_from, listed_from, numbered_from, member_from, members_from, naming_from, named_from, explored_from, points_from, finish, storage_from}
 use Rattle.cert_text.specs.Spellable.{AreShown, IsStorageSpellable}
 use Rattle.cert_text.specs.Spelling.{cycle_list, member_list, point_list, end_line, storage_lists}
-use Rattle.cert_text.proofs.Entries.{numbers-sound, bind-ok}
+use Rattle.cert_text.proofs.EntriesAreReadInTurn.{numbers-sound, bind-ok}
 use Rattle.cert_text.proofs.FoundCycles.{differ-more}
 use Rattle.cert_text.proofs.ListedCycles.{listed-text, listed-cycle, listed-blocked}
 use Rattle.cert_text.proofs.ReadMembers.{IsGoodMember, AreGood}
@@ -31,9 +31,9 @@ use Rattle.cert_text.proofs.ReadSections.{IsGoodCycle}
 use Rattle.cert_text.proofs.SoundEntries.{capacities-line-sound}
 use Rattle.cert_text.proofs.SoundLines.{rate-sound, numbered-sound, same-is}
 use Rattle.cert_text.proofs.SoundSections.{joined, Was, reads, reads-is, next-was, worded-was, overlap-was, cycle-was, points-was, finish-was}
-use Rattle.cert_text.proofs.Texts.{all-pushed}
-use Rattle.cert_text.proofs.Times.{in-front-ok}
-use Rattle.cert_text.proofs.Uses.{used_next}
+use Rattle.cert_text.proofs.PiecesMakeTexts.{all-pushed}
+use Rattle.cert_text.proofs.RepeatedReadsGoOn.{in-front-ok}
+use Rattle.cert_text.proofs.MembersNameInOrder.{used_next}
 
 -- ---- the list of the cycles
 

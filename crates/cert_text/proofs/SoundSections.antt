@@ -26,11 +26,11 @@ use Rattle.cert_text.specs.ScheduleLines.{schedule_header, schedule_lines}
 use Rattle.cert_text.specs.Sections.{begins_with_digit, actors_from, schedule_from, cycle_from, rate_from, nothing_behind, finish, ending, point_from, points_from, entered_from, nodes_from, potentials_from, scenario_from}
 use Rattle.cert_text.specs.Spellable.{AreStarts, IsRateSpellable, Rise}
 use Rattle.cert_text.specs.Spelling.{end_line, point_list, potential_list}
-use Rattle.cert_text.proofs.Entries.{numbers-sound, bind-ok}
+use Rattle.cert_text.proofs.EntriesAreReadInTurn.{numbers-sound, bind-ok}
 use Rattle.cert_text.proofs.ReadSections.{IsGoodStep, IsGoodCycle, IsGoodPoint}
 use Rattle.cert_text.proofs.SoundEntries.{buffers-line-sound}
 use Rattle.cert_text.proofs.SoundLines.{worded-sound, overlap-sound, rate-sound, schedule-line-sound, IsHeaderWithin, header-sound, step-sound, point-line-sound, node-sound, nodes-line-sound, potential-sound}
-use Rattle.cert_text.proofs.Times.{in-front-ok}
+use Rattle.cert_text.proofs.RepeatedReadsGoOn.{in-front-ok}
 
 -- ---- lines as a text
 

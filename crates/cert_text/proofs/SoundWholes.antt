@@ -20,7 +20,7 @@ use Rattle.cert_text.specs.Spelling.{rate_kind, storage_kind, scenario_kind, rat
 use Rattle.cert_text.proofs.SoundLines.{version-sound, same-is}
 use Rattle.cert_text.proofs.SoundMembers.{storage-was}
 use Rattle.cert_text.proofs.SoundSections.{joined, joined-lines, reads, reads-is, next-was, rate-was, scenario-was}
-use Rattle.cert_text.proofs.Entries.{bind-ok}
+use Rattle.cert_text.proofs.EntriesAreReadInTurn.{bind-ok}
 
 -- a certificate that was read of the lines after the first one
 record IsAfter (version : ℕ) (lines : List (List ℕ)) (c : Certificate) : Type 0 where

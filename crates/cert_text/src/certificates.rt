@@ -65,9 +65,11 @@ pub struct PointLine {
 pub struct StorageCertificate {
     /// Whether no two firings of one actor overlap.
     pub no_overlap: bool,
+    /// The greatest storage of the distributions of which it speaks.
     pub limit: u64,
     /// The cycles that members name, each once, in the order in which members first name them.
     pub cycles: Rows<LinkCycle>,
+    /// Points name them by their places here, from 0.
     pub members: Rows<MemberLine>,
     pub points: Rows<PointLine>,
 }

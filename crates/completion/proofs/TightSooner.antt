@@ -6,17 +6,17 @@ use Rattle.critical.specs.declared.cycle.CycleStep.{CycleStep}
 use Rattle.completion.specs.declared.timetable.Timetable.{Timetable}
 use Rattle.sd_base.specs.Net.{Net, channel_at}
 use Rattle.sd_base.specs.Schedules.{LastNeed, count_of, end_of, start_of}
-use Rattle.sd_base.proofs.Rounds.{time-shift}
+use Rattle.sd_base.proofs.RoundsKeepTokens.{time-shift}
 use Rattle.critical.specs.Cycles.{IsChain, IsStep, last_of}
 use Rattle.critical.proofs.LaterCycles.{last-up}
-use Rattle.critical.proofs.Passes as shared
-use Rattle.critical.proofs.Passes.{up_to}
+use Rattle.critical.proofs.PassesRepeat as shared
+use Rattle.critical.proofs.PassesRepeat.{up_to}
 use Rattle.completion.specs.Ways.{AreFirstTight, IsFirstTight, IsTight, StartsAt, firing_time}
 use Rattle.completion.specs.inside.Timetables.{IsTimetable, before_of, moment_of, pass_of}
-use Rattle.completion.proofs.Chained.{chain-starts, step-fed}
-use Rattle.completion.proofs.Starts.{one-start, start-is}
-use Rattle.completion.proofs.Timing.{counts-at, late-number, moment-later, moment-starts, pass-is}
-use Rattle.completion.proofs.Laps.{Reaches, sooner, sooner_steps, step-sooner, time-sooner, whole}
+use Rattle.completion.proofs.ChainsStartInTurn.{chain-starts, step-fed}
+use Rattle.completion.proofs.FiringsStartOnce.{one-start, start-is}
+use Rattle.completion.proofs.TimetablesTellStarts.{counts-at, late-number, moment-later, moment-starts, pass-is}
+use Rattle.completion.proofs.SegmentsComeAgain.{Reaches, sooner, sooner_steps, step-sooner, time-sooner, whole}
 
 module _ (net : Net) (times : Timetable) (is : IsTimetable net times) where
   -- a firing that starts late enough, and the one so many passes before

@@ -60,17 +60,17 @@ pub(crate) fn count(parts: &mut [Part], actor: u32, time: u64)
     };
 }
 
-/// Counts the firings of a lap so many times more.
-pub(crate) fn count_laps(parts: &mut [Part], lap: &[Part], laps: u64)
-    requires same { length lap.now ≡ length parts.old }
-    requires few { (a : ℕ) → a < length parts.old → (part_at parts.old a).firings + laps * (part_at lap.now a).firings < 2 ^ 63 }
-    requires soon { (a : ℕ) → a < length parts.old → (part_at parts.old a).time + laps * (part_at lap.now a).time < 2 ^ 126 }
+/// Counts the firings of a segment so many times more.
+pub(crate) fn count_segments(parts: &mut [Part], segment: &[Part], segments: u64)
+    requires same { length segment.now ≡ length parts.old }
+    requires few { (a : ℕ) → a < length parts.old → (part_at parts.old a).firings + segments * (part_at segment.now a).firings < 2 ^ 63 }
+    requires soon { (a : ℕ) → a < length parts.old → (part_at parts.old a).time + segments * (part_at segment.now a).time < 2 ^ 126 }
     ensures actors { length parts.new ≡ length parts.old }
-    ensures firings { (a : ℕ) → a < length parts.old → (part_at parts.new a).firings ≡ (part_at parts.old a).firings + laps * (part_at lap.now a).firings }
-    ensures time { (a : ℕ) → a < length parts.old → (part_at parts.new a).time ≡ (part_at parts.old a).time + laps * (part_at lap.now a).time }
+    ensures firings { (a : ℕ) → a < length parts.old → (part_at parts.new a).firings ≡ (part_at parts.old a).firings + segments * (part_at segment.now a).firings }
+    ensures time { (a : ℕ) → a < length parts.old → (part_at parts.new a).time ≡ (part_at parts.old a).time + segments * (part_at segment.now a).time }
 {
     for actor in 0..parts.len() {
-        parts[actor] = parts[actor].with_times(lap[actor], laps);
+        parts[actor] = parts[actor].with_times(segment[actor], segments);
     }
 }
 

@@ -31,7 +31,7 @@ pub struct Completion {
 /// execution completes them first, and what starts after the entry of its loop starts whole periods after the first
 /// pass (Ghamarian et al. 2006). A way of needs of just that time is followed backwards from the firing that ends
 /// last, of several that of the least actor, by the tight need whose channel the net lists first; where the
-/// way comes again to a firing whole passes before, the lap between is counted as often as it fits after the entry,
+/// way comes again to a firing whole passes before, the segment between is counted as often as it fits after the entry,
 /// and isn't gone again. At most `states` shapes are looked at; `steps` counts the call as one execution.
 ///
 /// Cost: that of `find_loop`, a second execution up to the entry, and for each firing that is looked at the channels

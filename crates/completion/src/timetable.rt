@@ -83,7 +83,7 @@ impl Timetable {
 
     /// How often the way from one firing to another fits between the entry and the earlier one, if both are of one
     /// actor, whole passes apart.
-    pub(crate) fn laps(&self, earlier: Start, later: Start) -> Option<u64>
+    pub(crate) fn segments(&self, earlier: Start, later: Start) -> Option<u64>
         requires full { IsFull self.now }
         requires actor { earlier.actor < length self.now.table.starts }
         requires order { later.actor ≡ earlier.actor → earlier.number < later.number }

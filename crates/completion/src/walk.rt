@@ -3,9 +3,9 @@
 //! The way to a completion isn't listed. A way of needs has as many firings as the rounds make it, so its firings are
 //! counted by actor as it is followed backwards, and none of them is kept but one, with which later ones are compared
 //! (Brent 1980, as in the search for the loop). Where the way comes to a firing of that one's actor, whole passes before it
-//! and after the entry, the lap between is counted as often as it fits after the entry, with one multiplication an actor. A
-//! firing after the entry has the same tight needs as the firing a pass later, so these are the firings that would be
-//! passed one by one. A mark for each firing of a pass would find the first such place, and cost a list as long as the
+//! and after the entry, the segment between is counted as often as it fits after the entry, with one multiplication an
+//! actor. A firing after the entry has the same tight needs as the firing a pass later, so these are the firings that would
+//! be passed one by one. A mark for each firing of a pass would find the first such place, and cost a list as long as the
 //! loop; what is told is the same.
 ghost use Rattle.std.specs.Prelude.{◌≡◌, ◌≢◌, ℕ, ◌^◌, ◌≤◌, ◌<◌, IfOk, MatchOption, length};
 ghost use Rattle.sd_base.specs.declared.limits.TheConstants.{ROUNDS};
@@ -16,7 +16,7 @@ ghost use Rattle.completion.specs.Ways.{HasWay, InRounds, no_part, part_at};
 ghost use Rattle.completion.specs.inside.Timetables.{EndsLast, IsLastOf, IsStart, IsTimetable, end_at};
 ghost use Rattle.completion.specs.inside.Walks.{FitsTimes, IsFirstNeed, IsSlackOn, IsTightNeedOn, IsWalkBack};
 
-use crate::counts::{Part, clear, count, count_laps, no_parts};
+use crate::counts::{Part, clear, count, count_segments, no_parts};
 use crate::timetable::{Start, Timetable, end, time_at};
 use firing::{Firing, Wired, know_laws, need};
 use sd_base::NoMemory;
@@ -34,7 +34,7 @@ pub(crate) struct Walk {
     /// The firing that is kept.
     kept: Start,
     /// By actor what the way before it is made of.
-    lap: Vec<Part>,
+    segment: Vec<Part>,
     /// For how many firings more it is kept, and for how many it is in all.
     left: u64,
     reach: u64,
@@ -85,13 +85,13 @@ impl Walk {
             last.actor,
             time_at(net, last.actor, last.number),
         );
-        let lap = no_parts(alloc, net.actors())?;
+        let segment = no_parts(alloc, net.actors())?;
         Ok(Walk {
             last,
             here: last,
             parts,
             kept: last,
-            lap,
+            segment,
             left: 1,
             reach: 1,
         })
@@ -111,11 +111,11 @@ impl Walk {
         let here = tight_need(wired.net, times, inputs, self.here);
         let time = time_at(wired.net, here.actor, here.number);
         count(&mut self.parts, here.actor, time);
-        count(&mut self.lap, here.actor, time);
+        count(&mut self.segment, here.actor, time);
         self.here = here;
     }
 
-    /// Where the firing here lies whole passes before the one kept, goes back as many laps more as fit after the
+    /// Where the firing here lies whole passes before the one kept, goes back as many segments more as fit after the
     /// entry; else keeps this one if the other has been kept for long (Brent 1980).
     fn look_back<F: Firing>(&mut self, net: &F, times: &Timetable)
         requires times { IsTimetable (F.net net.now) times.now }
@@ -126,8 +126,8 @@ impl Walk {
         ensures back { self.new.here.moment ≤ self.old.here.moment }
     {
         know_laws(net);
-        if let Some(laps) = times.laps(self.here, self.kept) {
-            self.jump(times, laps);
+        if let Some(segments) = times.segments(self.here, self.kept) {
+            self.jump(times, segments);
         } else if self.left > 1 {
             self.left -= 1;
         } else {
@@ -136,18 +136,18 @@ impl Walk {
         }
     }
 
-    /// Goes back so many laps more, each like that back from the kept firing.
-    fn jump(&mut self, times: &Timetable, laps: u64)
+    /// Goes back so many segments more, each like that back from the kept firing.
+    fn jump(&mut self, times: &Timetable, segments: u64)
         requires walk { (net : Net) × IsTimetable net times.now × IsWalkBack net times.now self.old }
         requires order { self.old.here.moment < self.old.kept.moment }
-        requires fits { FitsTimes times.now self.old.here self.old.kept laps }
+        requires fits { FitsTimes times.now self.old.here self.old.kept segments }
         ensures last { self.new.last ≡ self.old.last }
         ensures walk { (net : Net) → IsTimetable net times.now → IsWalkBack net times.now self.old → IsWalkBack net times.now self.new }
         ensures back { self.new.here.moment ≤ self.old.here.moment }
     {
         let apart = self.kept.number - self.here.number;
-        count_laps(&mut self.parts, &self.lap, laps);
-        self.here = times.start(self.here.actor, self.here.number - laps * apart);
+        count_segments(&mut self.parts, &self.segment, segments);
+        self.here = times.start(self.here.actor, self.here.number - segments * apart);
         self.keep();
     }
 
@@ -157,10 +157,10 @@ impl Walk {
         ensures here { self.new.here ≡ self.old.here }
         ensures parts { self.new.parts.items ≡ self.old.parts.items }
         ensures kept { self.new.kept ≡ self.old.here }
-        ensures actors { length self.new.lap.items ≡ length self.old.lap.items }
-        ensures lap { (a : ℕ) → a < length self.old.lap.items → part_at self.new.lap.items a ≡ no_part }
+        ensures actors { length self.new.segment.items ≡ length self.old.segment.items }
+        ensures segment { (a : ℕ) → a < length self.old.segment.items → part_at self.new.segment.items a ≡ no_part }
     {
-        clear(&mut self.lap);
+        clear(&mut self.segment);
         self.kept = self.here;
         self.left = self.reach;
     }

@@ -15,9 +15,9 @@ use Rattle.covers.specs.Nodes.{IsProper}
 use Rattle.covers.specs.inside.Ways.{IsInside}
 use Rattle.covers.specs.inside.Surveys.{AllCovered, AreTolls, IsLeast}
 use Rattle.covers.specs.inside.Keeping.{IsBranched, IsFound, IsRank, known, put_all}
-use Rattle.covers.proofs.Kept.{raised}
-use Rattle.covers.proofs.Storages.{storage-le}
-use Rattle.covers.proofs.Surveying.{covers-nothing}
+use Rattle.covers.proofs.NoVectorIsLost.{raised}
+use Rattle.covers.proofs.StorageRises.{storage-le}
+use Rattle.covers.proofs.BoundsNarrowNodes.{covers-nothing}
 
 -- each vector in the node needs at least the storage of its least one
 pub lo-least : (lattice : Lattice) (n : Node) (ks : List ℕ) → IsInside lattice n ks → storage_of lattice.axes n.lo.items ≤ storage_of lattice.axes ks

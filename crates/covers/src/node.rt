@@ -15,7 +15,9 @@ use std::cmp::Ordering;
 /// ordered by that storage, and then by the vectors.
 #[derive(Drop)]
 pub struct Node {
+    /// By bounded channel the least capacity, in tokens.
     pub lo: Vec<u64>,
+    /// By bounded channel the greatest capacity, in tokens.
     pub hi: Vec<u64>,
     pub least: u64,
 }

@@ -24,7 +24,7 @@ pub(crate) enum Survey {
 /// A bound that covers a node's least vector, by its place: how many ways out it has, and what the cheapest adds to the
 /// storage.
 #[derive(Clone, Copy)]
-pub struct Toll {
+pub(crate) struct Toll {
     pub(crate) cost: u64,
     pub(crate) ways: usize,
     pub(crate) place: usize,

@@ -11,7 +11,7 @@ use crate::vectors::{capacity_at, product_within};
 
 /// A channel, the least capacity on it that a bound doesn't cover, and the storage that this adds.
 #[derive(Clone, Copy)]
-pub struct Way {
+pub(crate) struct Way {
     pub(crate) channel: u32,
     pub(crate) capacity: u64,
     pub(crate) cost: u64,

@@ -10,18 +10,18 @@ use Rattle.sd_base.specs.SelfTimed.{earliest}
 use Rattle.sd_base.specs.Lawful.{Lawful}
 use Rattle.sd_base.specs.Rates.{IsLoopTable}
 use Rattle.sd_base.specs.Futures.{Repeats}
-use Rattle.sd_base.proofs.Parts.{regular, balanced}
-use Rattle.sd_base.proofs.Counts.{early_at}
-use Rattle.sd_base.proofs.Ends.{sum_to}
+use Rattle.sd_base.proofs.LawfulIsRegular.{regular, balanced}
+use Rattle.sd_base.proofs.EndsDecideCounts.{early_at}
+use Rattle.sd_base.proofs.FiringOrdersEnd.{sum_to}
 use Rattle.sd_base.proofs.LoopRates.{sum_to-part, table-repeats}
-use Rattle.sd_base.proofs.Admissibles.{is_actor}
-use Rattle.sd_base.proofs.Truths.{pair-small}
+use Rattle.sd_base.proofs.FiringsKeepOrder.{is_actor}
+use Rattle.sd_base.proofs.ByteTestsDecide.{pair-small}
 use Rattle.critical.specs.Cycles.{IsChain, last_of, time_along}
 use Rattle.critical.specs.Bounds.{HasCriticalCycle}
-use Rattle.critical.proofs.Spans.{some-time}
-use Rattle.critical.proofs.Agreements.{agree}
+use Rattle.critical.proofs.FiringsStandApart.{some-time}
+use Rattle.critical.proofs.TwoNumbersAgree.{agree}
 use Rattle.critical.specs.inside.Trails.{steps_of}
-use Rattle.critical.proofs.Trails.{Trail, start_at, trail, trail-chain, trail-last, trail-time, closes}
+use Rattle.critical.proofs.TrailsLeadBack.{Trail, start_at, trail, trail-chain, trail-last, trail-time, closes}
 
 module _ (net : Net) (laws : Lawful net) (fed : HasInputs net) (entry period rounds : ℕ) (again : Repeats net entry (entry + period) (λ a. rounds * slice_index net.round a)) (some : 1 ≤ rounds) where
   -- the firings of all actors in a pass

@@ -7,11 +7,11 @@ use Rattle.critical.specs.declared.cycle.NeedCycle.{NeedCycle}
 use Rattle.sd_base.specs.Net.{Net, channel_at, total}
 use Rattle.sd_base.specs.Schedules.{time_of, LastNeed}
 use Rattle.sd_base.specs.Lawful.{Lawful}
-use Rattle.sd_base.proofs.Parts.{wired, balanced}
-use Rattle.sd_base.proofs.Rounds.{Whole, whole-rounds, time-shift, made-shift, taken-shift, needs-unshift, last-shift}
+use Rattle.sd_base.proofs.LawfulIsRegular.{wired, balanced}
+use Rattle.sd_base.proofs.RoundsKeepTokens.{Whole, whole-rounds, time-shift, made-shift, taken-shift, needs-unshift, last-shift}
 use Rattle.critical.specs.Cycles.{IsChain, last_of, time_along, HoldsOn}
 use Rattle.critical.specs.LaterCycles.{later_firing, later_steps, later_cycle}
-use Rattle.critical.proofs.Spans.{first-actor}
+use Rattle.critical.proofs.FiringsStandApart.{first-actor}
 
 module _ (net : Net) (v : ℕ → ℕ) (whole : Whole net v) (i : ℕ) (place : i < length net.channels) where
   last-unshift : (j m : ℕ) → LastNeed (channel_at net i) (j + v (channel_at net i).target) (m + v (channel_at net i).source) → LastNeed (channel_at net i) j m

@@ -1,27 +1,27 @@
-mod Agreements
-pub mod Chains
-mod Closed
+mod TwoNumbersAgree
+pub mod ChainsSplitAndJoin
+mod ClosedWaysAreCritical
 mod CriticalCycles
 pub mod LaterCycles
-mod Lowering
-mod Marking
-pub mod Passes
-pub mod Shortness
-mod Slopes
-pub mod Storage
-mod Stretches
+mod FiringsCanBeLowered
+mod PlacesTellFirings
+pub mod PassesRepeat
+pub mod LoopsAreShort
+mod CountsAreBounded
+pub mod ListedSpacesRise
+mod StretchesGiveSteps
 mod StretchSpaces
 pub mod TightCycles
 pub mod TightNeeds
-mod Spans
-mod Turning
+mod FiringsStandApart
+mod WaysTurnToCycles
 mod UpperSides
-mod Walking
-mod Trails
+mod MarkedFiringsRecur
+mod TrailsLeadBack
 pub mod CycleTraces
-mod Unspacing
-mod Readings
-mod Ranks
-mod Ways
-mod Searching
+mod CyclesAvoidSpaces
+mod ReadingsAreOne
+mod RanksRuleOutCycles
+mod WaysExtend
+mod SearchGoesOn
 mod SearchTurns

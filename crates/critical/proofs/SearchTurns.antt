@@ -6,7 +6,7 @@ use Rattle.std.proofs.lemmas.Option.{same_Some, none-some}
 use Rattle.firing.specs.declared.table.LoopTable.{LoopTable}
 use Rattle.firing.specs.declared.sums.Port.TheVariants.{Taken}
 use Rattle.firing.specs.Wiring.{IsListed}
-use Rattle.firing.proofs.Listings.{member-place}
+use Rattle.firing.proofs.PlacesAreListed.{member-place}
 use Rattle.critical.specs.declared.cycle.FiringNo.{FiringNo}
 use Rattle.critical.specs.declared.tight.ReadNeed.{ReadNeed}
 use Rattle.critical.specs.declared.walk.Met.{Met}
@@ -14,11 +14,11 @@ use Rattle.sd_base.specs.declared.role.Role.TheVariants.{Space}
 use Rattle.sd_base.specs.Net.{Net, channel_at}
 use Rattle.critical.specs.inside.Trails.{IsShortLoop, IsSecond, IsTightNeed, IsSlackOn, Leads, second_of, class_at, met_at}
 use Rattle.critical.specs.inside.Searches.{IsNoSpace, HasRanks, IsMarked, IsLeft, IsOpen, IsOpenNeed, HasLeftOn, HasLeftAll, IsSearch, TurnsTo, GoesOn, ComesRound}
-use Rattle.critical.proofs.Marking.{firing-same}
-use Rattle.critical.proofs.Passes.{actors-same}
-use Rattle.critical.proofs.Readings.{one-need}
-use Rattle.critical.proofs.Ways.{Extends, extends-push, extends-pop, IsNext, next-first, next-of}
-use Rattle.critical.proofs.Searching.{turns-on, marked-on, comes-round, turns-back}
+use Rattle.critical.proofs.PlacesTellFirings.{firing-same}
+use Rattle.critical.proofs.PassesRepeat.{actors-same}
+use Rattle.critical.proofs.ReadingsAreOne.{one-need}
+use Rattle.critical.proofs.WaysExtend.{Extends, extends-push, extends-pop, IsNext, next-first, next-of}
+use Rattle.critical.proofs.SearchGoesOn.{turns-on, marked-on, comes-round, turns-back}
 
 -- ---- whether it can go on to a firing
 

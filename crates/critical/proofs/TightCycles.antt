@@ -10,15 +10,15 @@ use Rattle.sd_base.specs.Schedules.{time_of, LastNeed, Schedule, count_of, start
 use Rattle.sd_base.specs.SelfTimed.{earliest}
 use Rattle.sd_base.specs.Lawful.{Lawful}
 use Rattle.sd_base.specs.Rates.{IsLoopTable}
-use Rattle.sd_base.proofs.Rounds.{Whole, time-shift}
-use Rattle.sd_base.proofs.Ends.{sum_to}
-use Rattle.sd_base.proofs.Counts.{ended_at}
+use Rattle.sd_base.proofs.RoundsKeepTokens.{Whole, time-shift}
+use Rattle.sd_base.proofs.FiringOrdersEnd.{sum_to}
+use Rattle.sd_base.proofs.EndsDecideCounts.{ended_at}
 use Rattle.sd_base.proofs.LoopRates.{sum_to-part}
 use Rattle.critical.specs.Cycles.{IsStep, IsChain, last_of, time_along, HoldsOn}
 use Rattle.critical.specs.CriticalCycles.{pass_of, IsTight, AreTight}
-use Rattle.critical.proofs.Spans.{moved-need, chain-spans, first-actor, turn, turns-apart}
+use Rattle.critical.proofs.FiringsStandApart.{moved-need, chain-spans, first-actor, turn, turns-apart}
 use Rattle.critical.proofs.LaterCycles.{last-up, last-down}
-use Rattle.critical.proofs.Passes.{up_to, early, some-pass, grows, counts-at, enough-passes, starts-after, pass-on, agree-at, time-passes, whole-passes, runs-past, runs-on}
+use Rattle.critical.proofs.PassesRepeat.{up_to, early, some-pass, grows, counts-at, enough-passes, starts-after, pass-on, agree-at, time-passes, whole-passes, runs-past, runs-on}
 
 -- a need of a step, moved, ends just when the step's firing starts
 pub record JustAt (net : Net) (s : Schedule) (v : ℕ → ℕ) (from : FiringNo) (step : CycleStep) : Type 0 where

@@ -8,19 +8,19 @@ use Rattle.critical.specs.declared.tight.ReadNeed.{ReadNeed}
 use Rattle.sd_base.specs.Net.{Channel, Net, channel_at, total}
 use Rattle.sd_base.specs.Schedules.{time_of, LastNeed, IsNeed, count_of, start_of, end_of}
 use Rattle.sd_base.specs.Lawful.{Lawful}
-use Rattle.sd_base.proofs.Sums.{total-le, one-last-need, one-total}
-use Rattle.sd_base.proofs.Parts.{regular}
-use Rattle.sd_base.proofs.Counts.{ended_at}
-use Rattle.sd_base.proofs.Wordings.{need-is_last}
-use Rattle.sd_base.proofs.Tight.{TightNeed, tight}
+use Rattle.sd_base.proofs.SumsRepeatByTurns.{total-le, one-last-need, one-total}
+use Rattle.sd_base.proofs.LawfulIsRegular.{regular}
+use Rattle.sd_base.proofs.EndsDecideCounts.{ended_at}
+use Rattle.sd_base.proofs.LastNeedsSuffice.{need-is_last}
+use Rattle.sd_base.proofs.StartsMeetEnds.{TightNeed, tight}
 use Rattle.firing.specs.declared.sums.Port.TheVariants.{Taken}
 use Rattle.firing.specs.Wiring.{IsListed}
-use Rattle.firing.proofs.Listings.{member-place}
+use Rattle.firing.proofs.PlacesAreListed.{member-place}
 use Rattle.std.specs.Int.{div_ceil}
 use Rattle.std.proofs.lemmas.Grind.{div_ceil_times}
 use Rattle.critical.specs.CriticalCycles.{pass_of}
 use Rattle.critical.specs.inside.Trails.{IsShortLoop, IsSecond, EndsJust, IsReadFrom, IsTightNeed, IsSlackOn, IsSlackBefore, second_of, listed_at}
-use Rattle.critical.proofs.Passes.{up_to, early, runs-past, runs-on, pass-on, agree-at, counts-at, starts-after, time-passes, listed-many, actors-same, Second, second-is, second-from}
+use Rattle.critical.proofs.PassesRepeat.{up_to, early, runs-past, runs-on, pass-on, agree-at, counts-at, starts-after, time-passes, listed-many, actors-same, Second, second-is, second-from}
 
 -- the last needed firing is the one before the need
 pub need-last : (c : Channel) (j n : ℕ) → (n ≡ 0 → ⊥) → IsNeed c j n → LastNeed c j (n - 1)

@@ -8,18 +8,18 @@ use Rattle.sd_base.specs.Net.{Net, channel_at, total}
 use Rattle.sd_base.specs.Schedules.{Needs, Schedule, count_of, start_of, end_of, Admissible}
 use Rattle.sd_base.specs.Lawful.{Lawful}
 use Rattle.sd_base.specs.Rates.{Rate}
-use Rattle.sd_base.proofs.Sums.{total-times, total-grows, total-le}
-use Rattle.sd_base.proofs.Parts.{wired, balanced}
-use Rattle.sd_base.proofs.Rounds.{Whole, whole-round}
-use Rattle.sd_base.proofs.Ends.{sum_to}
+use Rattle.sd_base.proofs.SumsRepeatByTurns.{total-times, total-grows, total-le}
+use Rattle.sd_base.proofs.LawfulIsRegular.{wired, balanced}
+use Rattle.sd_base.proofs.RoundsKeepTokens.{Whole, whole-round}
+use Rattle.sd_base.proofs.FiringOrdersEnd.{sum_to}
 use Rattle.sd_base.proofs.LoopRates.{sum_to-part}
 use Rattle.critical.specs.Cycles.{HoldsOn}
 use Rattle.sd_base.specs.Rates.{HasUpperSide}
 use Rattle.sd_base.specs.Connection.{IsPath, IsStronglyConnected, ends_of}
-use Rattle.sd_base.proofs.Connections.{IsChannel, channel-of}
+use Rattle.sd_base.proofs.PathsAreWalks.{IsChannel, channel-of}
 use Rattle.sd_base.proofs.LoopRates.{slopes, factor-out}
-use Rattle.critical.proofs.Slopes.{Started, started-before, started-bound, count-bounded}
-use Rattle.critical.proofs.Spans.{first-actor, some-time, firing-late, turn}
+use Rattle.critical.proofs.CountsAreBounded.{Started, started-before, started-bound, count-bounded}
+use Rattle.critical.proofs.FiringsStandApart.{first-actor, some-time, firing-late, turn}
 
 module _ (net : Net) (laws : Lawful net) (cycle : NeedCycle) (holds : HoldsOn net cycle) where
   round_at : ℕ

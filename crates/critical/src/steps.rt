@@ -60,6 +60,7 @@ impl Model for CycleSteps {
 }
 
 impl CycleSteps {
+    /// No steps, without memory.
     pub fn new(alloc: Global) -> CycleSteps
         ensures { result ≡ [] }
     {
@@ -76,6 +77,7 @@ impl CycleSteps {
         push_step(&mut self.stretches, step)
     }
 
+    /// Whether there are no steps.
     pub fn is_empty(&self) -> bool
         ensures { result ≡ (length self.now == 0) }
     {

@@ -8,14 +8,14 @@ use Rattle.sd_base.specs.Lawful.{Lawful}
 use Rattle.sd_base.specs.declared.limits.TheConstants.{ROUND, TIME}
 use Rattle.sd_base.specs.Schedules.{phases_at, time_of}
 use Rattle.sd_base.specs.Untimed.{one_more, CanFire}
-use Rattle.sd_base.proofs.Parts.{balanced}
-use Rattle.sd_base.proofs.Blocking.{bump-same, bump-other, bump-cases}
-use Rattle.sd_base.proofs.Lists.{entry-le-sum, some-within}
+use Rattle.sd_base.proofs.LawfulIsRegular.{balanced}
+use Rattle.sd_base.proofs.ClosedCountsBoundRuns.{bump-same, bump-other, bump-cases}
+use Rattle.sd_base.proofs.ElementsKeepPlaces.{entry-le-sum, some-within}
 use Rattle.token_matrix.specs.Stamps.{IsTakenBy}
 use Rattle.token_matrix.specs.Ways.{IsChain}
 use Rattle.token_matrix.specs.Ways.IsChain.{begins, goes}
 use Rattle.entry_ways.specs.inside.Columns.{start_in, AreUpTo, IsColumn, IsFedBy, IsLink, IsLinkInto, IsLongest, HasStart}
-use Rattle.token_matrix.proofs.Putters.{put_earlier}
+use Rattle.token_matrix.proofs.TokensHaveProducers.{put_earlier}
 
 last-at : (xs : List (Option ℕ)) (s : Option ℕ) → slice_index_or (xs ++ s ∷ []) (length xs) None ≡ s
 last-at [] s = refl

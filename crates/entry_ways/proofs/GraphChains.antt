@@ -12,16 +12,16 @@ use Rattle.sd_base.specs.Net.{Net, channel_at, IsRepetitionOf}
 use Rattle.sd_base.specs.Schedules.{phases_at}
 use Rattle.sd_base.specs.FileNet.{net_of}
 use Rattle.sd_base.specs.Scenarios.{Shares, shared_count}
-use Rattle.sd_base.proofs.Lists.{entry-le-sum}
+use Rattle.sd_base.proofs.ElementsKeepPlaces.{entry-le-sum}
 use Rattle.token_matrix.specs.Stamps.{first_of, no_row}
 use Rattle.token_matrix.specs.Ways.{IsWay}
-use Rattle.token_matrix.proofs.OfGraph.{no_actor, channels-many, tokens-are}
+use Rattle.token_matrix.proofs.GraphMatricesCarry.{no_actor, channels-many, tokens-are}
 use Rattle.entry_ways.specs.declared.marking.EntryPlace.{EntryPlace}
 use Rattle.entry_ways.specs.WayMarks.{HasWay, IsLongestWay}
 use Rattle.entry_ways.specs.inside.Columns.{IsTraceable}
 use Rattle.entry_ways.specs.inside.Firsts.{AreFirsts}
 use Rattle.entry_ways.specs.inside.Traces.{AreApart}
-use Rattle.entry_ways.proofs.Apartness.{channels-apart}
+use Rattle.entry_ways.proofs.SharedTokensAreApart.{channels-apart}
 use Rattle.entry_ways.proofs.SameNumbers.{same-way, same-longest}
 
 -- shared tokens have numbers below their limit, since some actor fires in a round

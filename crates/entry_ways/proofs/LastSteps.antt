@@ -10,7 +10,7 @@ use Rattle.token_matrix.specs.Ways.IsWay.{stays, put}
 use Rattle.entry_ways.specs.inside.Columns.{start_in, IsColumn}
 use Rattle.entry_ways.specs.WayMarks.{IsLongestWay}
 use Rattle.entry_ways.specs.inside.Traces.{AreApart, IsOnChannel}
-use Rattle.token_matrix.proofs.Putters.{one_putter, put_earlier}
+use Rattle.token_matrix.proofs.TokensHaveProducers.{one_producer, put_earlier}
 
 -- the channel of the token that is left by a way
 pub way-on : (net : Net) (first : ℕ → ℕ) (p q e : ℕ) (cs : List ℕ) → IsWay net first p q e cs → (i : ℕ) × IsOnChannel net first q i
@@ -56,7 +56,7 @@ module _ (net : Net) (first : ℕ → ℕ) (p q c : ℕ) (apart : AreApart net f
         let here = place-of i k below there is in
         let moved : IsPutBy (channel_at net c) (left_token net c (q - first c)) l = subst (λ (m : ℕ). IsPutBy (channel_at net c) (left_token net c m) l) here.1
         (subst (λ (j : ℕ). IsPutBy (channel_at net j) (left_token net j k) l) here.0 puts') in
-        let same : l ≡ n = one_putter net c (left_token net c (q - first c)) l n moved puts in
+        let same : l ≡ n = one_producer net c (left_token net c (q - first c)) l n moved puts in
         let chain' : IsChain net first p (channel_at net c).source n t cs = subst (λ (m : ℕ). IsChain net first p (channel_at net c).source m t cs) same
         (subst (λ (j : ℕ). IsChain net first p (channel_at net j).source l t cs) here.0 chain) in
         (t, chain', ap (λ (j : ℕ). t + time_of net (channel_at net j).source l) here.0 ∙ ap (λ (m : ℕ). t + time_of net (channel_at net c).source m) same)

@@ -1,10 +1,10 @@
-pub mod PutterRanges
-pub mod Longest
-pub mod Arrivals
+pub mod ProducerRanges
+pub mod LaterIsLongest
+pub mod LatestEndsGiveLinks
 pub mod ColumnSteps
 pub mod WaySteps
 pub mod LastSteps
-pub mod Marks
+pub mod MarksAddUp
 pub mod SameNumbers
-pub mod Apartness
+pub mod SharedTokensAreApart
 pub mod GraphChains

@@ -7,12 +7,12 @@ use Rattle.sd_base.specs.Schedules.{time_of}
 use Rattle.token_matrix.specs.Stamps.{IsTakenBy, IsPutBy}
 use Rattle.token_matrix.specs.Ways.{IsChain}
 use Rattle.token_matrix.specs.Ways.IsChain.{begins, goes}
-use Rattle.entry_ways.specs.inside.Columns.{start_in, ArePutters, IsColumn, IsEndIn, IsFedBy, IsLink, IsLinkInto}
+use Rattle.entry_ways.specs.inside.Columns.{start_in, AreProducers, IsColumn, IsEndIn, IsFedBy, IsLink, IsLinkInto}
 use Rattle.entry_ways.specs.inside.Traces.{IsEndOf, IsLinkOn}
 use Rattle.entry_ways.specs.declared.links.Link.{Link}
 use Rattle.entry_ways.specs.declared.links.Link.TheVariants.{Begins, Goes}
-use Rattle.sd_base.proofs.Sums.{total-le}
-use Rattle.sd_base.proofs.Lists.{some-within}
+use Rattle.sd_base.proofs.SumsRepeatByTurns.{total-le}
+use Rattle.sd_base.proofs.ElementsKeepPlaces.{some-within}
 use Rattle.token_matrix.proofs.ChainStamps.{chain_early}
 
 module _ (net : Net) (laws : Lawful net) (first : ℕ → ℕ) (p : ℕ) (rows : List (List (Option ℕ))) (column : IsColumn net first p (slice_index net.round) rows) where
@@ -61,18 +61,18 @@ module _ (net : Net) (laws : Lawful net) (first : ℕ → ℕ) (p : ℕ) (rows :
       IsChain net first p a j t (i ∷ [])
   chain-from a j t i m below into early takes there at is = subst (λ (n : ℕ). IsChain net first p a j n (i ∷ [])) (sym is) (begins a j i m below into early takes there at)
 
--- ---- links by putters
+-- ---- links by producers
 
 module _ (net : Net) (number : ℕ → ℕ) (p : ℕ) (rows : List (List (Option ℕ))) (i j t : ℕ) where
-  pub end-links : (has : Bool) (first end : ℕ) → ArePutters net number p i j has first end → (IsTrue has → t ≡ 0 → ⊥) → (r : Option Link) →
+  pub end-links : (has : Bool) (first end : ℕ) → AreProducers net number p i j has first end → (IsTrue has → t ≡ 0 → ⊥) → (r : Option Link) →
       MatchOption r (IsEndIn net rows i first end t → ⊥) (IsEndOf net rows i first end t) → MatchOption r (IsLink net number p rows i j t → ⊥) (IsLinkOn net number p rows i j t)
-  end-links has first end putters later None none = back
+  end-links has first end producers later None none = back
     where
       back : IsLink net number p rows i j t → ⊥
-      back (inl (m, takes, there, at, is)) = later (putters.token.1 (m, takes, there, at)) is
-      back (inr (m, k, d, takes, puts, at, is)) = let range = putters.all m k takes puts in none (k, d, range.0, range.1, at, is)
-  end-links has first end putters later (Some (Begins c)) is = absurd is
-  end-links has first end putters later (Some (Goes c k d)) (same, low, high, at, is) = let m = putters.each k low high in (same, at, is, (m.0, m.1, m.2))
+      back (inl (m, takes, there, at, is)) = later (producers.token.1 (m, takes, there, at)) is
+      back (inr (m, k, d, takes, puts, at, is)) = let range = producers.all m k takes puts in none (k, d, range.0, range.1, at, is)
+  end-links has first end producers later (Some (Begins c)) is = absurd is
+  end-links has first end producers later (Some (Goes c k d)) (same, low, high, at, is) = let m = producers.each k low high in (same, at, is, (m.0, m.1, m.2))
 
   -- what has no link on the channel
   pub no-link : (r : Option Link) → MatchOption r (IsLink net number p rows i j t → ⊥) (IsLinkOn net number p rows i j t) → ((l : Link) → r ≡ Some l → ⊥) → IsLink net number p rows i j t → ⊥

@@ -7,7 +7,7 @@ ghost use Rattle.sd_base.specs.Untimed.{IsRoundOrder, counts_after, none_fired};
 ghost use Rattle.entry_ways.specs.inside.Columns.{AreSmall, AreUpTo, HasStart, IsColumn, IsEndIn, IsFedBy, IsLink, IsLinkInto, IsLongest, later, later_by, start_in};
 
 use crate::chains::Chains;
-use crate::putters::putters_of;
+use crate::producers::producers_of;
 use firing::{Firing, know_laws};
 use sd_base::{NoMemory, Rows};
 use std::alloc::Global;
@@ -114,9 +114,9 @@ fn arrival<F: Firing>(
     ensures { IsLongest (IsLink (F.net chains.now.wired.now.net.now) (slice_index chains.now.firsts.now) chains.now.token rows.now channel firing) result }
 {
     know_laws(chains.wired.net);
-    let putters = putters_of(chains, channel, firing);
-    let end = latest_end(chains, rows, channel, putters.first, putters.end);
-    if putters.has_token {
+    let producers = producers_of(chains, channel, firing);
+    let end = latest_end(chains, rows, channel, producers.first, producers.end);
+    if producers.has_token {
         later(Some(0), end)
     } else {
         end
@@ -138,8 +138,8 @@ fn latest_end<F: Firing>(
     ensures { IsLongest (IsEndIn (F.net chains.now.wired.now.net.now) rows.now channel first end) result }
 {
     let mut latest = None;
-    for putter in first..end {
-        latest = later(latest, end_of(chains, rows, channel, putter));
+    for producer in first..end {
+        latest = later(latest, end_of(chains, rows, channel, producer));
     }
     latest
 }
@@ -149,18 +149,18 @@ fn end_of<F: Firing>(
     chains: &Chains<F>,
     rows: &[Rows<Option<u128>>],
     channel: u32,
-    putter: u64,
+    producer: u64,
 ) -> Option<u128>
     requires channel { channel < length (F.net chains.now.wired.now.net.now).channels }
     requires long { length rows.now ≡ length (F.net chains.now.wired.now.net.now).times }
-    requires there { putter < length (slice_index_or rows.now (channel_at (F.net chains.now.wired.now.net.now) channel).source []) }
+    requires there { producer < length (slice_index_or rows.now (channel_at (F.net chains.now.wired.now.net.now) channel).source []) }
     requires small { AreSmall rows.now }
-    ensures { result ≡ later_by (time_of (F.net chains.now.wired.now.net.now) (channel_at (F.net chains.now.wired.now.net.now) channel).source putter)
-        (start_in rows.now (channel_at (F.net chains.now.wired.now.net.now) channel).source putter) }
+    ensures { result ≡ later_by (time_of (F.net chains.now.wired.now.net.now) (channel_at (F.net chains.now.wired.now.net.now) channel).source producer)
+        (start_in rows.now (channel_at (F.net chains.now.wired.now.net.now) channel).source producer) }
 {
     know_laws(chains.wired.net);
     let source = chains.wired.net.source(channel);
-    match start_at(rows, source, putter) {
+    match start_at(rows, source, producer) {
         Some(start) => Some(start + u128::from(chains.wired.net.time(source, 0))),
         None => None,
     }

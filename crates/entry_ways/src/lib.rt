@@ -6,7 +6,7 @@ mod column;
 mod firsts;
 mod links;
 mod marking;
-mod putters;
+mod producers;
 mod way;
 
 pub use marking::{EntryPlace, mark_ways};

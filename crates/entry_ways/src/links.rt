@@ -8,7 +8,7 @@ ghost use Rattle.entry_ways.specs.inside.Traces.{AreMarked, IsEndOf, IsLinkOn, I
 
 use crate::chains::Chains;
 use crate::column::start_at;
-use crate::putters::putters_of;
+use crate::producers::producers_of;
 use firing::{Firing, know_laws};
 use sd_base::Rows;
 
@@ -22,13 +22,13 @@ pub(crate) enum Link {
     /// From this channel it takes a token of this firing of its source, which ends just then.
     Goes {
         channel: u32,
-        putter: u64,
+        producer: u64,
         start: u128,
     },
 }
 
 /// Marks the channels from which tokens are taken along a chain from the shared token to the start of a firing that takes
-/// so long. Cost: for each firing of the chain its putters.
+/// so long. Cost: for each firing of the chain its producers.
 pub(crate) fn mark_chain<F: Firing>(
     chains: &Chains<F>,
     rows: &[Rows<Option<u128>>],
@@ -57,12 +57,12 @@ pub(crate) fn mark_chain<F: Firing>(
             }
             Link::Goes {
                 channel,
-                putter,
+                producer,
                 start: earlier,
             } => {
                 mark(marks, channel);
                 actor = chains.wired.net.source(channel);
-                firing = putter;
+                firing = producer;
                 start = earlier;
             }
         }
@@ -118,11 +118,11 @@ fn link_on<F: Firing>(
     ensures { MatchOption result (IsLink (F.net chains.now.wired.now.net.now) (slice_index chains.now.firsts.now) chains.now.token rows.now channel firing start → ⊥)
         (IsLinkOn (F.net chains.now.wired.now.net.now) (slice_index chains.now.firsts.now) chains.now.token rows.now channel firing start) }
 {
-    let putters = putters_of(chains, channel, firing);
-    if is_begun(putters.has_token, start) {
+    let producers = producers_of(chains, channel, firing);
+    if is_begun(producers.has_token, start) {
         return Some(Link::Begins { channel });
     }
-    putter_ending(chains, rows, channel, putters.first, putters.end, start)
+    producer_ending(chains, rows, channel, producers.first, producers.end, start)
 }
 
 /// Whether a firing that takes the shared token starts as soon as that is there.
@@ -133,7 +133,7 @@ fn is_begun(has_token: bool, start: u128) -> bool
 }
 
 /// The link by the first of some firings of a channel's source that ends just at a start.
-fn putter_ending<F: Firing>(
+fn producer_ending<F: Firing>(
     chains: &Chains<F>,
     rows: &[Rows<Option<u128>>],
     channel: u32,
@@ -148,8 +148,8 @@ fn putter_ending<F: Firing>(
     ensures { MatchOption result (IsEndIn (F.net chains.now.wired.now.net.now) rows.now channel first end start → ⊥)
         (IsEndOf (F.net chains.now.wired.now.net.now) rows.now channel first end start) }
 {
-    for putter in first..end {
-        if let Some(link) = link_by(chains, rows, channel, putter, start) {
+    for producer in first..end {
+        if let Some(link) = link_by(chains, rows, channel, producer, start) {
             return Some(link);
         }
     }
@@ -161,26 +161,26 @@ fn link_by<F: Firing>(
     chains: &Chains<F>,
     rows: &[Rows<Option<u128>>],
     channel: u32,
-    putter: u64,
+    producer: u64,
     start: u128,
 ) -> Option<Link>
     requires long { length rows.now ≡ length (F.net chains.now.wired.now.net.now).times }
     requires small { AreSmall rows.now }
     requires channel { channel < length (F.net chains.now.wired.now.net.now).channels }
-    requires there { putter < length (slice_index_or rows.now (channel_at (F.net chains.now.wired.now.net.now) channel).source []) }
-    ensures { MatchOption result (IsEndIn (F.net chains.now.wired.now.net.now) rows.now channel putter (putter + 1) start → ⊥)
-        (IsEndOf (F.net chains.now.wired.now.net.now) rows.now channel putter (putter + 1) start) }
+    requires there { producer < length (slice_index_or rows.now (channel_at (F.net chains.now.wired.now.net.now) channel).source []) }
+    ensures { MatchOption result (IsEndIn (F.net chains.now.wired.now.net.now) rows.now channel producer (producer + 1) start → ⊥)
+        (IsEndOf (F.net chains.now.wired.now.net.now) rows.now channel producer (producer + 1) start) }
 {
     know_laws(chains.wired.net);
     let source = chains.wired.net.source(channel);
     let time = u128::from(chains.wired.net.time(source, 0));
-    let begun = start_at(rows, source, putter);
+    let begun = start_at(rows, source, producer);
     match begun {
         Some(earlier) => {
             if earlier + time == start {
                 Some(Link::Goes {
                     channel,
-                    putter,
+                    producer,
                     start: earlier,
                 })
             } else {

@@ -10,7 +10,7 @@ ghost use Rattle.entry_ways.specs.inside.Traces.{AreApart, AreMarked, IsOnChanne
 use crate::chains::Chains;
 use crate::column::start_at;
 use crate::links::mark_chain;
-use crate::putters::{putter_of, taken_rate};
+use crate::producers::{producer_of, taken_rate};
 use firing::{Firing, know_laws};
 use sd_base::Rows;
 
@@ -36,9 +36,9 @@ pub(crate) fn mark_way<F: Firing>(
         return;
     }
     let actor = chains.wired.net.source(channel);
-    let putter = putter_of(chains, channel, last);
-    match start_at(rows, actor, putter) {
-        Some(start) => mark_chain(chains, rows, actor, putter, start, marks),
+    let producer = producer_of(chains, channel, last);
+    match start_at(rows, actor, producer) {
+        Some(start) => mark_chain(chains, rows, actor, producer, start, marks),
         None => unreachable!(),
     }
 }

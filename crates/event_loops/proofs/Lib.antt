@@ -1,8 +1,8 @@
-pub mod Going
-pub mod Collected
-pub mod Traced
-pub mod Printed
-pub mod Searched
-pub mod Visiting
-pub mod Repeated
-pub mod Entered
+pub mod LiveEnginesGoOn
+pub mod StartsAddUp
+pub mod TracesFollowEvents
+pub mod FingerprintsTellShapes
+pub mod KeptShapesFindPairs
+pub mod VisitsCountEvents
+pub mod FirstRepeatFound
+pub mod EntryBeginsLoop

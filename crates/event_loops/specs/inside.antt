@@ -3,4 +3,4 @@ pub mod Searching
 pub mod Collecting
 pub mod Entering
 pub mod Tracing
-pub mod Printing
+pub mod Fingerprinting

@@ -28,9 +28,9 @@ use std::alloc::Global;
 /// round longer than one up to the first repeat, and else mostly it has no more than half as many starts again, and at most
 /// some two and a half times as many. The entry is then found among the starts.
 /// Where it has more than `STARTS` of them, two more side by side, up to the first repeat and up to the entry. Where a
-/// refusal comes, an execution up to the last shape that is allowed if the print of its tokens is a new one, and else up to
-/// twice its moment, of at most `STARTS` starts more.
-/// Memory: two checkpoints and the present shape, and at most `STARTS` starts and as many events, with a print each.
+/// refusal comes, an execution up to the last shape that is allowed if the fingerprint of its tokens is a new one, and else
+/// up to twice its moment, of at most `STARTS` starts more.
+/// Memory: two checkpoints and the present shape, and at most `STARTS` starts and as many events, with a fingerprint each.
 pub fn loop_by_events<F: Firing>(
     alloc: Global,
     wired: &Wired<F>,

@@ -5,7 +5,7 @@ mod beginning;
 mod by_events;
 mod collect;
 mod entry;
-mod prints;
+mod fingerprints;
 mod repeat;
 mod search;
 mod steps;

@@ -15,15 +15,15 @@ ghost use Rattle.sd_base.specs.declared.limits.TheConstants.{STARTS};
 ghost use Rattle.sd_base.specs.Schedules.{HasInputs};
 ghost use Rattle.sd_base.specs.SelfTimed.{IsEvent, shape_at, starts_by};
 ghost use Rattle.sd_base.specs.Untimed.{IsLive};
-ghost use Rattle.selftimed.specs.Prints.{running_print_of};
+ghost use Rattle.selftimed.specs.Fingerprints.{running_fingerprint_of};
 ghost use Rattle.selftimed.specs.declared.engine.Stage.TheVariants.{Fresh, Running};
 ghost use Rattle.loops.specs.LoopAnswers.{IsRunRefusal};
 ghost use Rattle.loops.specs.declared.error.RunError.TheVariants.{StatesSpent, TooManyStarts};
-ghost use Rattle.event_loops.specs.inside.Printing.{ArePrints};
+ghost use Rattle.event_loops.specs.inside.Fingerprinting.{AreFingerprints};
 ghost use Rattle.event_loops.specs.inside.Tracing.{AreAllowed, IsTrace};
 ghost use Rattle.event_loops.specs.inside.Searching.{IsPair, IsCheckpoint, IsWatch, IsLast, NoneSoon};
 
-use crate::prints::{is_new, upper_half};
+use crate::fingerprints::{is_new, upper_half};
 use crate::steps::go_on;
 use crate::trace::Trace;
 use firing::Firing;
@@ -41,8 +41,8 @@ pub(crate) const SEARCH_STARTS: u64 = 4 * STARTS;
 /// A shape that the later ones are compared with.
 pub(crate) struct Checkpoint {
     pub(crate) shape: Shape,
-    pub(crate) print: u64,
-    pub(crate) running_print: u64,
+    pub(crate) fingerprint: u64,
+    pub(crate) running_fingerprint: u64,
     pub(crate) moment: u64,
     pub(crate) starts: u64,
     /// Up to how many starts it stays.
@@ -54,8 +54,8 @@ impl Drop for Checkpoint {
     fn drop(self) {
         let Checkpoint {
             shape: _shape,
-            print: _print,
-            running_print: _running_print,
+            fingerprint: _fingerprint,
+            running_fingerprint: _running_fingerprint,
             moment: _moment,
             starts: _starts,
             stays_to: _stays_to,
@@ -82,8 +82,8 @@ impl Drop for Watch {
 /// Finds a shape and the first one after it that is equal, and leaves the events and starts on the way in a trace. Each later
 /// shape is compared with those of the last two checkpoints. The first shape is the first checkpoint; a later one becomes one
 /// when the last one has stood for some time (`end_of_stay`). Where none is found again, the last shape that is allowed
-/// tells: if a shape up to there came again, then this one came before. So a new print of its tokens shows that all shapes
-/// differ; else it becomes a checkpoint, which comes again if a shape up to there does.
+/// tells: if a shape up to there came again, then this one came before. So a new fingerprint of its tokens shows that all
+/// shapes differ; else it becomes a checkpoint, which comes again if a shape up to there does.
 pub(crate) fn find_pair<F: Firing>(
     alloc: Global,
     engine: &mut Engine<F>,
@@ -102,11 +102,11 @@ pub(crate) fn find_pair<F: Firing>(
     ensures traced { IfOk result (λ pair. AreAllowed (F.net engine.old.net.now) states trace.new.moments.items trace.new.starts.items) }
     ensures refused { IfErr result (IsRunRefusal (F.net engine.old.net.now) states) }
 {
-    let mut prints = Vec::with_capacity(alloc, room_for(starts_of_round(engine.net)))?;
-    if let Some(pair) = search_allowed(alloc, engine, trace, &mut prints, states)? {
+    let mut fingerprints = Vec::with_capacity(alloc, room_for(starts_of_round(engine.net)))?;
+    if let Some(pair) = search_allowed(alloc, engine, trace, &mut fingerprints, states)? {
         return Ok(pair);
     }
-    if is_new(upper_half(engine), prints.as_slice()) {
+    if is_new(upper_half(engine), fingerprints.as_slice()) {
         return Err(refusal_at(engine.starts()));
     }
     let last = checkpoint_of(alloc, engine, starts_of_round(engine.net))?;
@@ -129,13 +129,13 @@ fn refusal_at(starts: u64) -> RunError
 }
 
 /// Compares each of the first `states` shapes with those of the last two checkpoints, up to the first one with more than `STARTS`
-/// starts, and adds their events to a trace and the prints of all but the last one to others. None: no checkpoint was found
-/// again.
+/// starts, and adds their events to a trace and the fingerprints of all but the last one to others. None: no checkpoint was
+/// found again.
 fn search_allowed<F: Firing>(
     alloc: Global,
     engine: &mut Engine<F>,
     trace: &mut Trace,
-    prints: &mut Vec<u32>,
+    fingerprints: &mut Vec<u32>,
     states: u64,
 ) -> Result<Option<Pair>, RunError>
     requires live { IsLive (F.net engine.old.net.now) }
@@ -144,12 +144,12 @@ fn search_allowed<F: Firing>(
     requires most { engine.old.most ≡ 4 * STARTS }
     requires some { 1 ≤ states }
     requires no_events { trace.old.moments.items ≡ [] }
-    requires no_prints { prints.old.items ≡ [] }
+    requires no_fingerprints { fingerprints.old.items ≡ [] }
     requires no_starts { trace.old.starts.items ≡ replicate (length (F.net engine.old.net.now).times) [] }
     ensures net { engine.new.net ≡ engine.old.net }
     ensures most { engine.new.most ≡ engine.old.most }
     ensures traced { IfOk result (λ o. AreAllowed (F.net engine.old.net.now) states trace.new.moments.items trace.new.starts.items) }
-    ensures prints { IfOk result (λ o. MatchOption o (ArePrints (F.net engine.old.net.now) engine.new.moment prints.new.items) (λ pair. Unit {0})) }
+    ensures fingerprints { IfOk result (λ o. MatchOption o (AreFingerprints (F.net engine.old.net.now) engine.new.moment fingerprints.new.items) (λ pair. Unit {0})) }
     ensures found { IfOk result (λ o. MatchOption o ((engine.new.stage ≡ Running) × IsLast (F.net engine.old.net.now) states engine.new.moment) (IsPair (F.net engine.old.net.now))) }
     ensures refused { IfErr result (IsRunRefusal (F.net engine.old.net.now) states) }
 {
@@ -158,7 +158,7 @@ fn search_allowed<F: Firing>(
     }
     trace.add(engine)?;
     let mut watch = watch_from(alloc, engine)?;
-    search_after(alloc, engine, trace, prints, &mut watch, states)
+    search_after(alloc, engine, trace, fingerprints, &mut watch, states)
 }
 
 /// What the shapes after one are compared with: with this one at first.
@@ -178,7 +178,7 @@ fn search_after<F: Firing>(
     alloc: Global,
     engine: &mut Engine<F>,
     trace: &mut Trace,
-    prints: &mut Vec<u32>,
+    fingerprints: &mut Vec<u32>,
     watch: &mut Watch,
     states: u64,
 ) -> Result<Option<Pair>, RunError>
@@ -192,11 +192,11 @@ fn search_after<F: Firing>(
     requires trace { starts_by (F.net engine.old.net.now) engine.old.moment ≤ STARTS →
         IsTrace (F.net engine.old.net.now) engine.old.moment trace.old.moments.items trace.old.starts.items }
     requires allowed { AreAllowed (F.net engine.old.net.now) states trace.old.moments.items trace.old.starts.items }
-    requires no_prints { prints.old.items ≡ [] }
+    requires no_fingerprints { fingerprints.old.items ≡ [] }
     ensures net { engine.new.net ≡ engine.old.net }
     ensures most { engine.new.most ≡ engine.old.most }
     ensures traced { IfOk result (λ o. AreAllowed (F.net engine.old.net.now) states trace.new.moments.items trace.new.starts.items) }
-    ensures prints { IfOk result (λ o. MatchOption o (ArePrints (F.net engine.old.net.now) engine.new.moment prints.new.items) (λ pair. Unit {0})) }
+    ensures fingerprints { IfOk result (λ o. MatchOption o (AreFingerprints (F.net engine.old.net.now) engine.new.moment fingerprints.new.items) (λ pair. Unit {0})) }
     ensures found { IfOk result (λ o. MatchOption o ((engine.new.stage ≡ Running) × IsLast (F.net engine.old.net.now) states engine.new.moment) (IsPair (F.net engine.old.net.now))) }
     ensures refused { IfErr result (IsRunRefusal (F.net engine.old.net.now) states) }
 {
@@ -205,7 +205,7 @@ fn search_after<F: Firing>(
         if engine.starts() > STARTS {
             return Ok(None);
         }
-        prints.push(upper_half(engine))?;
+        fingerprints.push(upper_half(engine))?;
         if !go_on(engine)? {
             return Err(RunError::TooManyStarts);
         }
@@ -227,8 +227,8 @@ fn pair_with<F: Firing>(engine: &Engine<F>, watch: &Watch) -> Option<Pair>
     requires watch { IsWatch (F.net engine.now.net.now) engine.now.moment watch.now }
     ensures { MatchOption result (IsWatch (F.net engine.now.net.now) (engine.now.moment + 1) watch.now) (IsPair (F.net engine.now.net.now)) }
 {
-    let print = engine.print();
-    if print == watch.last.print || print == watch.before.print {
+    let fingerprint = engine.fingerprint();
+    if fingerprint == watch.last.fingerprint || fingerprint == watch.before.fingerprint {
         return pair_of_alike(engine, watch);
     }
     None
@@ -243,14 +243,14 @@ fn pair_of_alike<F: Firing>(engine: &Engine<F>, watch: &Watch) -> Option<Pair>
     ensures { MatchOption result (IsWatch (F.net engine.now.net.now) (engine.now.moment + 1) watch.now) (IsPair (F.net engine.now.net.now)) }
 {
     let later = engine.moment();
-    let running_print = engine.running_print();
-    if has_shape(engine, running_print, &watch.last) {
+    let running_fingerprint = engine.running_fingerprint();
+    if has_shape(engine, running_fingerprint, &watch.last) {
         return Some(Pair {
             earlier: watch.last.moment,
             later,
         });
     }
-    if has_shape(engine, running_print, &watch.before) {
+    if has_shape(engine, running_fingerprint, &watch.before) {
         return Some(Pair {
             earlier: watch.before.moment,
             later,
@@ -326,8 +326,8 @@ fn checkpoint_of<F: Firing>(
 {
     Ok(Checkpoint {
         shape: engine.shape(alloc)?,
-        print: engine.print(),
-        running_print: engine.running_print(),
+        fingerprint: engine.fingerprint(),
+        running_fingerprint: engine.running_fingerprint(),
         moment: engine.moment(),
         starts: engine.starts(),
         stays_to: end_of_stay(engine.moment(), engine.starts(), round),
@@ -342,21 +342,25 @@ fn stands_at<F: Firing>(engine: &Engine<F>, checkpoint: &Checkpoint) -> bool
     requires checkpoint { IsCheckpoint (F.net engine.now.net.now) checkpoint.now }
     ensures { IsTrue result ↔ (shape_at (F.net engine.now.net.now) engine.now.moment ≡ shape_at (F.net engine.now.net.now) checkpoint.now.moment) }
 {
-    if engine.print() != checkpoint.print {
+    if engine.fingerprint() != checkpoint.fingerprint {
         return false;
     }
-    has_shape(engine, engine.running_print(), checkpoint)
+    has_shape(engine, engine.running_fingerprint(), checkpoint)
 }
 
-/// Whether an engine, with this print of its running firings, stands at the shape of a checkpoint.
+/// Whether an engine, with this fingerprint of its running firings, stands at the shape of a checkpoint.
 #[inline(never)]
-fn has_shape<F: Firing>(engine: &Engine<F>, running_print: u64, checkpoint: &Checkpoint) -> bool
+fn has_shape<F: Firing>(
+    engine: &Engine<F>,
+    running_fingerprint: u64,
+    checkpoint: &Checkpoint,
+) -> bool
     requires running { engine.now.stage ≡ Running }
-    requires print { running_print ≡ running_print_of (shape_at (F.net engine.now.net.now) engine.now.moment).remaining }
+    requires fingerprint { running_fingerprint ≡ running_fingerprint_of (shape_at (F.net engine.now.net.now) engine.now.moment).remaining }
     requires checkpoint { IsCheckpoint (F.net engine.now.net.now) checkpoint.now }
     ensures { IsTrue result ↔ (shape_at (F.net engine.now.net.now) engine.now.moment ≡ shape_at (F.net engine.now.net.now) checkpoint.now.moment) }
 {
-    if running_print != checkpoint.running_print {
+    if running_fingerprint != checkpoint.running_fingerprint {
         return false;
     }
     engine.same_shape(&checkpoint.shape)

@@ -8,7 +8,7 @@ use Rattle.sd_base.specs.Net.{Channel, Net}
 use Rattle.sd_base.specs.Lawful.{Lawful}
 use Rattle.sd_base.specs.Rates.{Rate}
 use Rattle.sd_base.specs.Untimed.{IsLive}
-use Rattle.sd_base.proofs.Containing.{contains-cases, contains-here, contains-later}
+use Rattle.sd_base.proofs.ContainedHavePlaces.{contains-cases, contains-here, contains-later}
 use Rattle.storage.specs.BoundedNets.{bound}
 use Rattle.storage.specs.StorageOrder.{AreInOrder, IsBefore}
 use Rattle.pareto_front.specs.declared.point.Point.{Point}
@@ -17,8 +17,8 @@ use Rattle.evaluations.specs.declared.shown.Shown.TheVariants.{Cycle, Blocked}
 use Rattle.evaluations.specs.ShownCycles.{shows_cycle}
 use Rattle.explore.specs.declared.exploration.Member.{Member}
 use Rattle.explore.specs.Explorations.{CountsLive, IsExploration, IsMember, ShowsRate, capacities_of, cycles_in}
-use Rattle.explore.proofs.Reaching.{looped-live}
-use Rattle.explore.proofs.Turning.{cycles-few}
+use Rattle.explore.proofs.ChildCountsReached.{looped-live}
+use Rattle.explore.proofs.TurnsTakeLevels.{cycles-few}
 
 -- a distribution before others, if it shows a cycle
 abbrev with_cycle : Shown → List (Option ℕ) → List (List (Option ℕ)) → List (List (Option ℕ))

@@ -9,7 +9,7 @@ use Rattle.std.proofs.lemmas.List.{length-map}
 use Rattle.std.proofs.lemmas.Map.Made.{is_member-Decides, length-le_from_is_member}
 use Rattle.sd_base.specs.declared.numbers.Fraction.{Fraction}
 use Rattle.sd_base.specs.Net.{Net}
-use Rattle.sd_base.proofs.Containing.{contains-here, contains-later, contains-map, contains-unmap}
+use Rattle.sd_base.proofs.ContainedHavePlaces.{contains-here, contains-later, contains-map, contains-unmap}
 use Rattle.storage.specs.ClosedLists.{Entry}
 use Rattle.pareto_front.specs.declared.point.Point.{Point}
 use Rattle.pareto_front.specs.Offers.{AreAbove, AreInOrder, Offer}
@@ -20,8 +20,8 @@ use Rattle.evaluations.specs.ShownCycles.{shows_cycle}
 use Rattle.explore.specs.declared.exploration.Member.{Member}
 use Rattle.explore.specs.Explorations.{IsMember, ShowsRate, cycles_in}
 use Rattle.explore.specs.inside.Searches.{AreKnown, offers_of}
-use Rattle.explore.proofs.Ending.{zero-test}
-use Rattle.explore.proofs.Searching.{noted-of}
+use Rattle.explore.proofs.PointsFormFront.{zero-test}
+use Rattle.explore.proofs.VisitsMatchMembers.{noted-of}
 
 storages : List Offer → List ℕ
 storages os = map (λ (o : Offer). o.storage) os

@@ -7,7 +7,7 @@ use Rattle.storage.specs.ParetoPoints.{Pair, IsReachedPair, no_pair}
 use Rattle.storage.specs.ClosedLists.{Entry, entry_at, IsFrontOver}
 use Rattle.storage.proofs.FrontsFromMembers.{less_on}
 use Rattle.pareto_front.specs.Offers.{Offer, Covers, IsCoveredBy, AreAbove, AreInOrder}
-use Rattle.pareto_front.proofs.Offers.{rest-order}
+use Rattle.pareto_front.proofs.OffersStayOrdered.{rest-order}
 
 abbrev pub pair_of : Offer → Pair
 pair_of o = record { storage = o.storage; num = o.rate.num; den = o.rate.den }

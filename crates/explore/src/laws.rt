@@ -4,7 +4,7 @@ ghost use Rattle.sd_base.specs.declared.limits.TheConstants.{NET_CHANNELS};
 ghost use Rattle.sd_base.specs.Net.{Net};
 ghost use Rattle.sd_base.specs.Connection.{IsConnected};
 ghost use Rattle.storage.specs.Distributions.{IsPlain};
-ghost use Rattle.storage.specs.TouchedActors.{AreTouched};
+ghost use Rattle.storage.specs.IncidentActors.{AreIncident};
 ghost use Rattle.storage.specs.ParetoPoints.{IsFront};
 ghost use Rattle.pareto_front.specs.declared.point.Point.{Point};
 ghost use Rattle.explore.specs.Ceilings.{IsGreatest};
@@ -13,8 +13,8 @@ ghost use Rattle.explore.specs.Reachable.{IsExplorable};
 
 /// A connected net of channels of a file and self-loops can be explored, if a channel ends at each actor and its channels,
 /// counted twice, aren't too many.
-pub fn touched_nets_are_explorable()
-    ensures { (net : Net) → IsPlain net → IsConnected net → AreTouched net → 2 * length net.channels ≤ NET_CHANNELS → IsExplorable net }
+pub fn incident_nets_are_explorable()
+    ensures { (net : Net) → IsPlain net → IsConnected net → AreIncident net → 2 * length net.channels ≤ NET_CHANNELS → IsExplorable net }
 {}
 
 /// Where a point has the greatest rate of all storage distributions, the points within its storage are those of every greater

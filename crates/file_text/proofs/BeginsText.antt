@@ -16,9 +16,9 @@ use Rattle.file_text.specs.Node.{node, no_node}
 use Rattle.file_text.specs.Grammar.{Each, is_name_byte, IsName}
 use Rattle.file_text.specs.inside.Utf8.{due_behind, due_along}
 use Rattle.file_text.specs.inside.Machine.{Around, prolog, within, epilog, Opened, open_of, ended, node_of, Holder, declaration, tag, Shape, at_start, in_mark, at_first, in_declaring, at_between, at_markup, in_comment, in_name, at_gap, in_attribute, at_named, at_equals, in_value, in_value_reference, at_valued, at_slash, at_ending, in_text_reference, in_closing, table, follow, walk, IsTidyBetween, IsTidyComment, IsTidyShape, IsProper, IsTidy}
-use Rattle.file_text.proofs.Utf8Laws.{byte_due}
+use Rattle.file_text.proofs.BytesSpellUtf8.{byte_due}
 use Rattle.file_text.proofs.MachineWalks.{Along}
-use Rattle.file_text.proofs.Names.{each_right}
+use Rattle.file_text.proofs.DistinctNamesStay.{each_right}
 use Rattle.file_text.proofs.OverElements.{name_bytes, over_matched}
 use Rattle.file_text.proofs.ReadSoFar.{IsOpen, Reached, IsHolder, Tagged, IsClosing, Has}
 use Rattle.file_text.proofs.TextsEnd.{Finishes, by_way, Env, finish_between, finish_ended, finish_name, finish_gap, finish_valued, finish_value, finish_equals, finish_named, finish_attribute}

@@ -11,12 +11,12 @@ use Rattle.file_text.specs.declared.reference.Referred.TheVariants.{More, Done, 
 use Rattle.file_text.specs.Node.{Node}
 use Rattle.file_text.specs.Grammar.{IsWhite, Entity, less, greater, ampersand, quotation, apostrophe, entity_text, entity_value, entity, IsElement}
 use Rattle.file_text.specs.inside.Machine.{class_of, Around, prolog, within, epilog, Opened, ended, node_of, Holder, declaration, Shape, at_start, in_mark, at_first, in_declaring, at_between, at_markup, in_comment, in_name, at_gap, in_attribute, at_named, at_equals, in_value, in_value_reference, at_valued, at_slash, at_ending, in_text_reference, in_closing, goes, leaves, referred, value_reference_step, text_reference_step, slash_step, ending_step, closing_step, table, Spot, advance, walk}
-use Rattle.file_text.proofs.Classes.{Known, known}
+use Rattle.file_text.proofs.ClassesMatchGrammar.{Known, known}
 use Rattle.file_text.proofs.ReadSoFar.{IsOpen, Reached, reference_text, Tagged, Valued, IsClosing, Has, Holds}
-use Rattle.file_text.proofs.OneMore.{white_more, open_item, closes}
+use Rattle.file_text.proofs.TextsTakeOneMore.{white_more, open_item, closes}
 use Rattle.file_text.proofs.KeepsText.{After, keeps_start, keeps_mark, keeps_first, keeps_declaring, keeps_between, keeps_markup, keeps_comment}
 use Rattle.file_text.proofs.KeepsTags.{empties, value_entity, keeps_name, keeps_gap, keeps_valued, keeps_attribute, keeps_named, keeps_equals, keeps_value}
-use Rattle.file_text.proofs.Tidy.{when_tidy}
+use Rattle.file_text.proofs.StepsStayTidy.{when_tidy}
 
 -- what a further byte makes of an entity's text
 abbrev pub Refers : Reference → ℕ → Referred → Type 0

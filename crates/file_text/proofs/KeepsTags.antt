@@ -3,7 +3,7 @@ use Rattle.std.proofs.Common.{◌≡◌, ◌≢◌, ℕ, suc, ◌≤◌, ◌⊎�
 use Rattle.std.proofs.lemmas.Bool.{cases_Bool, eqb-true, eqb-false}
 use Rattle.std.proofs.lemmas.Slice.Eq.{bytes_eq-Decides}
 use Rattle.std.specs.Str.{str_to_ascii_lowercase}
-use Rattle.sd_base.proofs.Truths.{bytes_same}
+use Rattle.sd_base.proofs.ByteTestsDecide.{bytes_same}
 use Rattle.file_text.specs.declared.tree.Attribute.{Attribute}
 use Rattle.file_text.specs.declared.class.Class.{Class}
 use Rattle.file_text.specs.declared.class.Class.TheVariants.{Wide, White, Control, Letter, Digit, Hyphen, Less, Greater, Slash, Question, Equals, Quote, Ampersand}
@@ -11,12 +11,12 @@ use Rattle.file_text.specs.Node.{node, no_node}
 use Rattle.file_text.specs.Grammar.{is_plain, is_name_byte, IsWhite, IsName, Entity, entity_text, entity_value, byte, entity, items_text, IsQuoted, AreAttributes, IsNew, AreDistinct, IsTag, IsElement}
 use Rattle.file_text.specs.inside.AttributeNames.{has_name}
 use Rattle.file_text.specs.inside.Machine.{Around, prolog, within, epilog, open_of, entered, ended, Holder, declaration, tag, in_name, at_gap, in_attribute, at_named, at_equals, in_value, at_valued, Step, goes, leaves, other_encoding, end_step, name_step, gap_step, valued_step, if_new, attribute_step, named_step, equals_step, declares_other, value_end, value_step}
-use Rattle.file_text.proofs.Classes.{Known}
-use Rattle.file_text.proofs.Names.{each-append, name_is_new, distinct_one_more}
+use Rattle.file_text.proofs.ClassesMatchGrammar.{Known}
+use Rattle.file_text.proofs.DistinctNamesStay.{each-append, name_is_new, distinct_one_more}
 use Rattle.file_text.proofs.OverTags.{Allowed, AllowedIn}
 use Rattle.file_text.proofs.OverElements.{HasRoom}
 use Rattle.file_text.proofs.ReadSoFar.{IsOpen, Reached, IsHolder, Tagged, Valued, Has}
-use Rattle.file_text.proofs.OneMore.{items_text-one, items_value-one, white_more, gap_one, gap_more, name_more, closes, attributes_more}
+use Rattle.file_text.proofs.TextsTakeOneMore.{items_text-one, items_value-one, white_more, gap_one, gap_more, name_more, closes, attributes_more}
 use Rattle.file_text.proofs.KeepsText.{After}
 
 -- the attributes of a tag that has only its name so far

@@ -12,11 +12,11 @@ use Rattle.file_text.specs.declared.mode.Comment.{Comment}
 use Rattle.file_text.specs.declared.mode.Comment.TheVariants as part
 use Rattle.file_text.specs.Grammar.{is_white, is_plain, IsName, byte, comment, mark}
 use Rattle.file_text.specs.inside.Machine.{Around, prolog, within, epilog, at_start, in_mark, at_first, in_declaring, at_between, at_markup, in_comment, in_name, Step, goes, leaves, start_step, mark_step, first_step, declaring_step, between_step, close_step, open_step, markup_step, comment_step, follow}
-use Rattle.file_text.proofs.Classes.{Known}
+use Rattle.file_text.proofs.ClassesMatchGrammar.{Known}
 use Rattle.file_text.proofs.OverElements.{HasRoom}
 use Rattle.file_text.proofs.ReadSoFar.{Reached, IsStartText, Clean, NoHyphen, Has, Holds}
-use Rattle.file_text.proofs.OneMore.{gap_one, reached_item, open_item, clean_more, body_from_clean}
-use Rattle.file_text.proofs.Tidy.{when_tidy}
+use Rattle.file_text.proofs.TextsTakeOneMore.{gap_one, reached_item, open_item, clean_more, body_from_clean}
+use Rattle.file_text.proofs.StepsStayTidy.{when_tidy}
 
 -- what holds where a step leads
 abbrev pub After : Bool → Step → List ℕ → Type 0

@@ -7,7 +7,7 @@ use Rattle.file_text.specs.Grammar.{Spells, IsLooseText}
 use Rattle.file_text.specs.Fault.{IsPrefix, LeavesAt}
 use Rattle.file_text.specs.inside.Machine.{State, move, run, start, tree_at}
 use Rattle.file_text.proofs.OverTexts.{all_allowed}
-use Rattle.file_text.proofs.Exact.{finished, completes, run-append, alive, dead, loose}
+use Rattle.file_text.proofs.MachineReadsExactly.{finished, completes, run-append, alive, dead, loose}
 
 -- what begins a beginning is one
 pub prefix_left : (t u : List ℕ) → IsPrefix (t ++ u) → IsPrefix t

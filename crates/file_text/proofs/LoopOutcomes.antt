@@ -12,7 +12,7 @@ use Rattle.file_text.specs.Fault.{FirstFault}
 use Rattle.file_text.specs.inside.Utf8.{due_after}
 use Rattle.file_text.specs.inside.Machine.{class_of, Around, prolog, within, epilog, Shape, at_between, Step, goes, leaves, too_deep, other_encoding, table, Spot, State, both, follow, run, start, tree_at, spelled_at, Takes}
 use Rattle.file_text.specs.inside.Exits.{IsStop, FaultAt, BehindQuote}
-use Rattle.file_text.proofs.Exact.{finished, completes, sounds, parts}
+use Rattle.file_text.proofs.MachineReadsExactly.{finished, completes, sounds, parts}
 use Rattle.file_text.proofs.LeavingPlaces.{run_more}
 use Rattle.file_text.proofs.RecognisedFaults.{stops_refused, stops_early, first_fault, deep_fault, other_fault}
 

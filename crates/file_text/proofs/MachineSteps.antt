@@ -17,7 +17,7 @@ use Rattle.file_text.specs.declared.reference.Referred.TheVariants.{More, Done, 
 use Rattle.file_text.specs.Grammar.{is_name_start}
 use Rattle.file_text.specs.inside.AttributeNames.{has_name}
 use Rattle.file_text.specs.inside.Machine.{class_of, Around, prolog, within, epilog, Holder, declaration, tag, Shape, at_start, in_mark, at_first, in_declaring, at_between, at_markup, in_comment, in_name, at_gap, in_attribute, at_named, at_equals, in_value, in_value_reference, at_valued, at_slash, at_ending, in_text_reference, in_closing, Step, goes, leaves, too_deep, other_encoding, start_step, mark_step, first_step, declaring_step, between_step, open_step, close_step, markup_step, comment_step, end_step, name_step, gap_step, valued_step, attribute_step, named_step, equals_step, declares_other, value_end, value_step, referred, value_reference_step, text_reference_step, slash_step, ending_step, leave_step, match_step, closing_step, table}
-use Rattle.file_text.proofs.Classes.{Known, known}
+use Rattle.file_text.proofs.ClassesMatchGrammar.{Known, known}
 
 -- a step that finds neither
 abbrev Plain : Step → Type 0

@@ -4,7 +4,7 @@ use Rattle.file_text.specs.declared.class.Class.{Class}
 use Rattle.file_text.specs.declared.class.Class.TheVariants.{Wide, White, Letter, Digit, Hyphen}
 use Rattle.file_text.specs.Grammar.{Each, is_white, is_name_start, is_name_byte, IsWhite, IsGap}
 use Rattle.file_text.specs.inside.Machine.{class_of, Around, Shape, Spot, follow, advance, walk, table}
-use Rattle.file_text.proofs.Classes.{white_of, start_of, name_of, by_white, by_start, by_name}
+use Rattle.file_text.proofs.ClassesMatchGrammar.{white_of, start_of, name_of, by_white, by_start, by_name}
 
 pub walk-none : (strict : Bool) (bs : List ℕ) → walk strict None bs ≡ None
 walk-none strict [] = refl

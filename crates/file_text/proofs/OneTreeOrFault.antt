@@ -3,7 +3,7 @@ use Rattle.std.proofs.Common.{◌≡◌, ◌≢◌, ℕ, zero, suc, ◌+◌, ◌
 use Rattle.std.proofs.lemmas.Bool.{cases_Bool, cases_lt, cases_eq, eqb-true, eqb-false}
 use Rattle.std.proofs.lemmas.List.{take_all}
 use Rattle.std.proofs.lemmas.Option.{same_Some}
-use Rattle.sd_base.proofs.Truths.{bytes_same, bytes_other}
+use Rattle.sd_base.proofs.ByteTestsDecide.{bytes_same, bytes_other}
 use Rattle.file_text.specs.declared.error.Construct.TheVariants.{Doctype, Cdata, Instruction, Reference, Encoding}
 use Rattle.file_text.specs.declared.error.TextError.{TextError}
 use Rattle.file_text.specs.declared.error.TextError.TheVariants.{Syntax, Unsupported, TooDeep, NoMemory}
@@ -14,7 +14,7 @@ use Rattle.file_text.specs.Fault.{Stands, IsStart, LeavesDeclaration, KnownAt, F
 use Rattle.file_text.specs.inside.Utf8.{due_after}
 use Rattle.file_text.specs.inside.Machine.{class_of, Step, goes, leaves, too_deep, other_encoding, table, State, run, start, tree_at}
 use Rattle.file_text.specs.inside.Exits.{IsLiteral, FaultAt, BehindQuote}
-use Rattle.file_text.proofs.Exact.{finished, completes}
+use Rattle.file_text.proofs.MachineReadsExactly.{finished, completes}
 use Rattle.file_text.proofs.LeavingPlaces.{run_more}
 use Rattle.file_text.proofs.RecognisedFaults.{first_fault, stops_refused, stops_early, deep_fault, other_fault}
 use Rattle.file_text.proofs.LoopOutcomes.{read_text}

@@ -5,7 +5,7 @@ use Rattle.file_text.specs.declared.class.Class.TheVariants.{Control, Hyphen, Le
 use Rattle.file_text.specs.declared.mode.Comment.TheVariants as part
 use Rattle.file_text.specs.Grammar.{Each, is_character, IsBody, BeginsWithEnd, Item, byte, entity, comment, Entity, less, greater, ampersand, quotation, apostrophe, entity_text, item_text, items_text, IsOutside, IsBetween, IsFiller}
 use Rattle.file_text.specs.inside.Machine.{class_of, Around, within, Opened, at_between, in_comment, goes, comment_step, between_step, follow, walk, table}
-use Rattle.file_text.proofs.Classes.{says, character_class, character_of, plain_class, plain_of}
+use Rattle.file_text.proofs.ClassesMatchGrammar.{says, character_class, character_of, plain_class, plain_of}
 use Rattle.file_text.proofs.MachineWalks.{Along, then, at_white}
 
 -- what a character of a comment leads to

@@ -3,16 +3,16 @@ use Rattle.std.proofs.Common.{◌≡◌, ℕ, ◌⊎◌, inl, inr, refl, sym, �
 use Rattle.std.proofs.lemmas.Bool.{ne_eqb, eq-eqb}
 use Rattle.std.proofs.lemmas.Slice.Eq.{bytes_eq-Decides}
 use Rattle.std.specs.Str.{str_to_ascii_lowercase}
-use Rattle.sd_base.proofs.Truths.{bytes_same}
+use Rattle.sd_base.proofs.ByteTestsDecide.{bytes_same}
 use Rattle.file_text.specs.declared.tree.Attribute.{Attribute}
 use Rattle.file_text.specs.declared.class.Class.{Class}
 use Rattle.file_text.specs.declared.class.Class.TheVariants.{White, Control, Less, Greater, Slash, Question, Quote, Ampersand}
 use Rattle.file_text.specs.Grammar.{Each, IsWhite, IsName, Item, byte, entity, comment, Entity, less, greater, ampersand, quotation, apostrophe, entity_text, entity_value, items_text, items_value, IsQuoted, IsHead, IsAttribute, AreAttributes, IsNew, AreDistinct, IsUtf8Name}
 use Rattle.file_text.specs.inside.AttributeNames.{has_name}
 use Rattle.file_text.specs.inside.Machine.{class_of, Around, Shape, at_gap, in_name, in_attribute, at_named, at_equals, in_value, at_valued, Holder, tag, declaration, Step, goes, other_encoding, end_step, value_step, value_end, declares_other, if_new, Spot, follow, walk, table}
-use Rattle.file_text.proofs.Classes.{plain_class, plain_of}
+use Rattle.file_text.proofs.ClassesMatchGrammar.{plain_class, plain_of}
 use Rattle.file_text.proofs.MachineWalks.{Along, stay, then, at_begin, at_name, over_white, over_gap, over_name}
-use Rattle.file_text.proofs.Names.{new_name, distinct_new}
+use Rattle.file_text.proofs.DistinctNamesStay.{new_name, distinct_new}
 
 -- what a strict machine asks of a declared attribute
 abbrev pub Allowed : Bool → Attribute → Type 0

@@ -19,10 +19,10 @@ use Rattle.file_text.specs.Grammar.{Each, is_white, is_plain, is_name_byte}
 use Rattle.file_text.specs.inside.Machine.{class_of, Around, within, Opened, Holder, Shape, at_between, in_comment, in_name, at_gap, in_attribute, at_named, at_equals, in_value, in_value_reference, in_text_reference, in_closing, Step, goes, name_step, attribute_step, value_step, match_step, table, follow, walk, State, run, start, IsDue}
 use Rattle.file_text.specs.inside.Runs.{takes, IsRun, IsPartOfBody, IsPartOfEntity}
 use Rattle.file_text.specs.inside.Seen.{opened_of, stack_on, around_in, around_of}
-use Rattle.file_text.proofs.Classes.{plain_class, name_class, Known, known, by_name}
+use Rattle.file_text.proofs.ClassesMatchGrammar.{plain_class, name_class, Known, known, by_name}
 use Rattle.file_text.proofs.MachineWalks.{at_white}
 use Rattle.file_text.proofs.TidyRuns.{run_both}
-use Rattle.file_text.proofs.Exact.{run-append}
+use Rattle.file_text.proofs.MachineReadsExactly.{run-append}
 use Rattle.file_text.proofs.OverFillers.{plain_between}
 
 -- ---- what the bytes of a run do

@@ -17,13 +17,13 @@ use Rattle.file_text.specs.inside.Utf8.{due_after}
 use Rattle.file_text.specs.inside.Machine.{class_of, Around, prolog, within, epilog, Opened, Shape, at_first, at_markup, in_comment, in_closing, in_name, Step, goes, leaves, too_deep, other_encoding, open_step, Spot, follow, advance, State, both, move, run, start, tree_at, table, IsTidyShape}
 use Rattle.file_text.specs.inside.Exits.{IsLiteral, FaultAt, BehindQuote}
 use Rattle.file_text.proofs.MachineWalks.{at_begin}
-use Rattle.file_text.proofs.Tidy.{ascii_after}
+use Rattle.file_text.proofs.StepsStayTidy.{ascii_after}
 use Rattle.file_text.proofs.ReadSoFar.{Has}
 use Rattle.file_text.proofs.MachineSteps.{IsDeep, Shows, shows, IsBehindLess, LeadsBehind, behind_less, either}
-use Rattle.file_text.proofs.Exact.{both_parts, tidy_at, has_at, run-append, alive, loose}
+use Rattle.file_text.proofs.MachineReadsExactly.{both_parts, tidy_at, has_at, run-append, alive, loose}
 use Rattle.file_text.proofs.LeavingPlaces.{run_more, leaves_at, one_place, spelled_stays, run_one}
-use Rattle.file_text.proofs.Encodings.{encoding_in, viable_run, no_encoding, spelled_no_encoding, encoding_same, both-none_spot}
-use Rattle.file_text.proofs.Known.{stands_at, known_same}
+use Rattle.file_text.proofs.OtherEncodingsStop.{encoding_in, viable_run, no_encoding, spelled_no_encoding, encoding_same, both-none_spot}
+use Rattle.file_text.proofs.OneKnownFault.{stands_at, known_same}
 
 -- a byte with which a name begins begins a character, and the other way round
 begins_due : (b : ℕ) → begins_name b ≡ true → due_after Nothing b ≡ None → ⊥

@@ -8,9 +8,9 @@ use Rattle.file_text.specs.Grammar.{Each, is_name_byte, IsName, IsNew}
 use Rattle.file_text.specs.inside.Utf8.{due_along}
 use Rattle.file_text.specs.inside.AttributeNames.{has_name}
 use Rattle.file_text.specs.inside.Machine.{Around, prolog, within, epilog, Opened, open_of, ended, node_of, Holder, declaration, tag, Shape, at_between, in_name, at_gap, in_attribute, at_named, at_equals, in_value, at_valued, table, follow, walk, IsDue, AreWhole}
-use Rattle.file_text.proofs.Utf8Laws.{due_along-append}
+use Rattle.file_text.proofs.BytesSpellUtf8.{due_along-append}
 use Rattle.file_text.proofs.MachineWalks.{Along, at_name, over_name}
-use Rattle.file_text.proofs.Names.{new_name}
+use Rattle.file_text.proofs.DistinctNamesStay.{new_name}
 use Rattle.file_text.proofs.OverTags.{AllowedIn, Ready, ready_name, ready_gap, ready_valued, over_equals, over_end}
 use Rattle.file_text.proofs.OverElements.{over_end_tag, empty_ends}
 use Rattle.file_text.proofs.OverTexts.{declaration_ends}

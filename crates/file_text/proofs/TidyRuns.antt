@@ -14,7 +14,7 @@ use Rattle.file_text.specs.Grammar.{Entity, less, greater, ampersand, quotation,
 use Rattle.file_text.specs.inside.Utf8.{due_after, due_along}
 use Rattle.file_text.specs.inside.Machine.{class_of, Around, prolog, within, epilog, Opened, open_of, ended, node_of, Holder, Shape, at_start, in_mark, at_first, in_declaring, at_between, at_markup, in_comment, in_name, at_gap, in_attribute, at_named, at_equals, in_value, in_value_reference, at_valued, at_slash, at_ending, in_text_reference, in_closing, goes, leaves, referred, value_reference_step, text_reference_step, slash_step, ending_step, leave_step, closing_step, table, Spot, advance, walk, State, both, move, run, start, IsDue, AreWhole, IsWholeHolder, IsTidyShape, IsProper, IsTidy}
 use Rattle.file_text.proofs.KeepsEnds.{Refers, refers, when_byte}
-use Rattle.file_text.proofs.Tidy.{Dues, dues, ascii_after, due_more, IsAsciiClass, TidyAt, TidyAfter, between_nothing, when_tidy, tidy_start, tidy_mark, tidy_first, tidy_declaring, tidy_between, tidy_markup, tidy_comment, tidy_name, tidy_gap, tidy_valued, tidy_attribute, tidy_named, tidy_equals, tidy_value}
+use Rattle.file_text.proofs.StepsStayTidy.{Dues, dues, ascii_after, due_more, IsAsciiClass, TidyAt, TidyAfter, between_nothing, when_tidy, tidy_start, tidy_mark, tidy_first, tidy_declaring, tidy_between, tidy_markup, tidy_comment, tidy_name, tidy_gap, tidy_valued, tidy_attribute, tidy_named, tidy_equals, tidy_value}
 
 -- the bytes of an entity are ASCII
 abbrev pub IsAsciiRead : ℕ → Referred → Type 0

@@ -15,7 +15,7 @@ use Rattle.file_text.specs.inside.Utf8.{due_after, due_after_first, due_along}
 use Rattle.file_text.specs.Node.{Node, node, Nodes, no_node, node_then}
 use Rattle.file_text.specs.Grammar.{Each, Entity, less, greater, ampersand, quotation, apostrophe, Item, byte, entity, comment, entity_text, entity_value, items_text, items_value, is_character, IsQuoted, IsHead, IsAttribute, AreAttributes, IsTag, IsElement, IsContent, IsText}
 use Rattle.file_text.specs.Values.{AreCharacters, HasCharacters, HaveCharacters}
-use Rattle.file_text.proofs.Utf8Laws.{ascii_along, due_along-IsUtf8, due_along-none, IsUtf8-due_along}
+use Rattle.file_text.proofs.BytesSpellUtf8.{ascii_along, due_along-IsUtf8, due_along-none, IsUtf8-due_along}
 
 -- ---- pieces of a text
 

@@ -16,10 +16,10 @@ use Rattle.file_text.specs.Grammar.{Each, is_character}
 use Rattle.file_text.specs.inside.Utf8.{due_along}
 use Rattle.file_text.specs.inside.Machine.{class_of, Around, in_comment, Step, goes, comment_step, table, Spot, follow, walk, IsDue}
 use Rattle.file_text.specs.inside.Runs.{takes, IsCharacter, IsRun, is_in_body, after_byte, hyphened, behind, place_behind, IsPartOfBody}
-use Rattle.file_text.proofs.Classes.{character_class, hyphen_class, greater_class, Known, known}
-use Rattle.file_text.proofs.Names.{each-append}
+use Rattle.file_text.proofs.ClassesMatchGrammar.{character_class, hyphen_class, greater_class, Known, known}
+use Rattle.file_text.proofs.DistinctNamesStay.{each-append}
 use Rattle.file_text.proofs.MachineWalks.{walk-append}
-use Rattle.file_text.proofs.Utf8Laws.{due_along-append, ascii_along}
+use Rattle.file_text.proofs.BytesSpellUtf8.{due_along-append, ascii_along}
 
 -- ---- one character
 

@@ -40,6 +40,7 @@ impl AttributeList {
         }
     }
 
+    /// The attributes in the order of the text.
     pub fn as_slice(&self) -> &[Attribute]
         ensures { result.now ≡ self.now }
     {

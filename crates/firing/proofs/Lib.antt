@@ -1,9 +1,9 @@
 pub mod PortSums
-pub mod Singles
+pub mod SinglesHaveOneNumber
 pub mod SdfTables
-pub mod Listings
-pub mod Counting
-pub mod Wirings
+pub mod PlacesAreListed
+pub mod CountingMakesGroups
+pub mod GroupsMakeWirings
 pub mod TokenMoves
 pub mod GraphTables
 pub mod PhaseLists

@@ -6,12 +6,12 @@ use Rattle.std.proofs.lemmas.List.Sums.{get_or-le-sum_by}
 use Rattle.sd_base.specs.Net.{Channel, Net, channel_at, phase_entry, total}
 use Rattle.sd_base.specs.Schedules.{IsNeed}
 use Rattle.sd_base.specs.Lawful.{Lawful}
-use Rattle.sd_base.proofs.Sums.{total-zero, total-more, total-le, total-split, total-shift, total-turns, total-turn, total-bound}
+use Rattle.sd_base.proofs.SumsRepeatByTurns.{total-zero, total-more, total-le, total-split, total-shift, total-turns, total-turn, total-bound}
 use Rattle.firing.specs.declared.sums.Port.{Port}
 use Rattle.firing.specs.declared.sums.Port.TheVariants.{Made, Taken}
 use Rattle.firing.specs.Ports.{rates_at}
-use Rattle.sd_base.proofs.Parts.{wired, balanced}
-use Rattle.sd_base.proofs.Rounds.{need-by_rounds}
+use Rattle.sd_base.proofs.LawfulIsRegular.{wired, balanced}
+use Rattle.sd_base.proofs.RoundsKeepTokens.{need-by_rounds}
 
 pub turn-none : (xs : List ℕ) → 0 ≡ total xs 0
 turn-none xs = sym (total-zero xs)

@@ -8,7 +8,7 @@ use Rattle.sd_base.specs.declared.tables.ActorRow.{ActorRow}
 use Rattle.sd_base.specs.declared.tables.ChannelRow.{ChannelRow}
 use Rattle.sd_base.specs.Tables.{phases_of, KeepsWideRules, IsTimed}
 use Rattle.sd_base.specs.Net.{nowhere, file_channels, IsRepetitionOf, total}
-use Rattle.sd_base.proofs.Sums.{total-zero, total-turn}
+use Rattle.sd_base.proofs.SumsRepeatByTurns.{total-zero, total-turn}
 use Rattle.sd_base.specs.Lawful.{Lawful}
 use Rattle.sd_base.specs.FileNet.{own_channels_from, net_of}
 use Rattle.sd_base.proofs.FileNets.{net_of-lawful}

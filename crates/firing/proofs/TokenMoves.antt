@@ -6,10 +6,10 @@ use Rattle.std.proofs.lemmas.List.{get_or-set_same, get_or-set_other, length-set
 use Rattle.sd_base.specs.Net.{Net, channel_at, phase_entry, total}
 use Rattle.sd_base.specs.Schedules.{Needs}
 use Rattle.sd_base.specs.Lawful.{Lawful}
-use Rattle.sd_base.proofs.Sums.{total-more, total-turn, total-turns, total-bound}
+use Rattle.sd_base.proofs.SumsRepeatByTurns.{total-more, total-turn, total-turns, total-bound}
 use Rattle.firing.specs.declared.sums.Port.{Port}
 use Rattle.firing.specs.declared.sums.Port.TheVariants.{Made, Taken}
-use Rattle.firing.proofs.Listings.{place_of}
+use Rattle.firing.proofs.PlacesAreListed.{place_of}
 use Rattle.firing.specs.Wiring.{actor_at, IsListed, LacksNow, SufficesBefore, IsFirstLack, TakesTokens, PutsTokens, IsLevel}
 
 -- ---- sums over a span of firings

@@ -8,10 +8,10 @@ use Rattle.sd_base.specs.declared.tables.Kind.{Kind}
 use Rattle.sd_base.specs.declared.tables.Kind.TheVariants.{Sdf}
 use Rattle.sd_base.specs.declared.tables.ActorRow.{ActorRow}
 use Rattle.sd_base.specs.declared.tables.ChannelRow.{ChannelRow}
-use Rattle.sd_base.proofs.Truths.{same_bytes, bytes_differ}
+use Rattle.sd_base.proofs.ByteTestsDecide.{same_bytes, bytes_differ}
 use Rattle.file_text.specs.Node.{Node}
 use Rattle.file_text.specs.Grammar.{Each}
-use Rattle.file_text.proofs.Names.{each-append}
+use Rattle.file_text.proofs.DistinctNamesStay.{each-append}
 use Rattle.graph_reader.specs.declared.actors.Direction.{Direction as ReadDirection}
 use Rattle.graph_reader.specs.declared.actors.Direction.TheVariants as read
 use Rattle.graph_reader.specs.declared.actors.Port.{Port}
@@ -27,10 +27,10 @@ use Rattle.gen_graph.specs.declared.direction.Direction.TheVariants.{Out, In}
 use Rattle.gen_graph.specs.GraphTrees.{port_name, port_node, ports_on, ports_from, actor_node, actor_nodes, no_actor, numbers_text}
 use Rattle.graph_reader.specs.WritableNames.{IsWritableName}
 use Rattle.graph_reader.proofs.ElementPlaces.{Each-weaker}
-use Rattle.graph_reader.proofs.Found.{PortsDiffer}
+use Rattle.graph_reader.proofs.ReadTreesAreSpelled.{PortsDiffer}
 use Rattle.gen_graph.proofs.TreeTexts.{AreSmall}
 use Rattle.gen_graph.proofs.NumbersBack.{spelled_back}
-use Rattle.gen_graph.proofs.Listed.{IsCalled, kept, children_are, pair_both, pair_perhaps, each_perhaps, two_both, two_perhaps}
+use Rattle.gen_graph.proofs.ElementsAreFound.{IsCalled, kept, children_are, pair_both, pair_perhaps, each_perhaps, two_both, two_perhaps}
 
 -- ---- what is read
 

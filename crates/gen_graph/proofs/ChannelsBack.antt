@@ -5,9 +5,9 @@ use Rattle.std.specs.List.{find}
 use Rattle.std.proofs.lemmas.Bool.{eq-eqb}
 use Rattle.sd_base.specs.declared.tables.ActorRow.{ActorRow}
 use Rattle.sd_base.specs.declared.tables.ChannelRow.{ChannelRow}
-use Rattle.sd_base.proofs.Truths.{same_bytes, bytes_differ}
+use Rattle.sd_base.proofs.ByteTestsDecide.{same_bytes, bytes_differ}
 use Rattle.file_text.specs.Grammar.{Each}
-use Rattle.file_text.proofs.Names.{each-append}
+use Rattle.file_text.proofs.DistinctNamesStay.{each-append}
 use Rattle.graph_reader.specs.declared.field.Field.TheVariants as field
 use Rattle.graph_reader.specs.declared.actors.Direction.TheVariants as read
 use Rattle.graph_reader.specs.declared.actors.Port.{Port}
@@ -20,7 +20,7 @@ use Rattle.gen_graph.specs.declared.direction.Direction.TheVariants.{Out, In}
 use Rattle.gen_graph.specs.GraphTrees.{port_name, no_actor, channel_node, channel_nodes}
 use Rattle.graph_reader.specs.WritableNames.{IsWritableName}
 use Rattle.gen_graph.proofs.NumbersBack.{number_back}
-use Rattle.gen_graph.proofs.Listed.{each_perhaps, find_skip, find_here}
+use Rattle.gen_graph.proofs.ElementsAreFound.{each_perhaps, find_skip, find_here}
 use Rattle.gen_graph.proofs.ActorsBack.{actor_read, actors_read, as_read, channel_read, channels_read, end_read, numbered_back, port_read, ports_at, ports_read, same_place}
 
 -- ---- channels

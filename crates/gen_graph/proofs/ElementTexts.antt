@@ -10,7 +10,7 @@ use Rattle.file_text.specs.declared.tree.Attribute.{Attribute}
 use Rattle.file_text.specs.Node.{Node, node, Nodes, no_node, node_then, nodes, depth, depths}
 use Rattle.file_text.specs.Grammar.{Each, byte, is_character, is_name_start, is_name_byte, IsName, IsAttribute, AreAttributes, AreDistinct, IsElement, IsContent}
 use Rattle.gen_graph.specs.NodeTexts.{escaped, attribute_text, attributes_text, inside_text, tagged, element_text, elements_text}
-use Rattle.gen_graph.proofs.Values.{is_ascii, ascii_utf8, items_of, escaped_utf8}
+use Rattle.gen_graph.proofs.ValuesAreSpelled.{is_ascii, ascii_utf8, items_of, escaped_utf8}
 
 -- ---- words of this project's own
 

@@ -1,10 +1,10 @@
-mod OneMore
-mod Values
+mod MadeListsGrow
+mod ValuesAreSpelled
 pub mod ElementTexts
 pub mod TreeTexts
 pub mod MadeTables
 mod NumbersBack
-mod Listed
+mod ElementsAreFound
 mod ActorsBack
 mod ChannelsBack
 mod TimesBack

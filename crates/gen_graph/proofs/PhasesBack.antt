@@ -7,14 +7,14 @@ use Rattle.std.proofs.lemmas.List.Elements.{All-nil, All-cons}
 use Rattle.sd_base.specs.declared.tables.ActorRow.{ActorRow}
 use Rattle.sd_base.specs.declared.tables.ChannelRow.{ChannelRow}
 use Rattle.file_text.specs.Grammar.{Each}
-use Rattle.file_text.proofs.Names.{each-append}
+use Rattle.file_text.proofs.DistinctNamesStay.{each-append}
 use Rattle.graph_reader.specs.declared.actors.Port.{Port}
 use Rattle.graph_reader.specs.declared.properties.TimeEntry.{TimeEntry}
 use Rattle.graph_reader.specs.declared.properties.SizeEntry.{SizeEntry}
 use Rattle.graph_reader.specs.Sections.{times_at, size_at, longest, lists_of, phases_in, widened, actor_row, channel_row}
 use Rattle.graph_reader.specs.Spelled.{IsEven}
 use Rattle.gen_graph.specs.declared.direction.Direction.TheVariants.{Out, In}
-use Rattle.gen_graph.proofs.Listed.{each_perhaps}
+use Rattle.gen_graph.proofs.ElementsAreFound.{each_perhaps}
 use Rattle.gen_graph.proofs.ActorsBack.{actor_read, actors_read, channel_read, channels_read, port_read, ports_at, ports_read}
 use Rattle.gen_graph.proofs.TimesBack.{HasTimes}
 use Rattle.gen_graph.proofs.SizesBack.{HasSize}

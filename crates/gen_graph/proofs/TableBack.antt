@@ -12,7 +12,7 @@ use Rattle.sd_base.specs.declared.tables.ChannelRow.{ChannelRow}
 use Rattle.sd_base.specs.Tables.{KeepsRules, ActorKeepsRules, ChannelKeepsRules, PortKeepsRules, IsTimed, phases_of}
 use Rattle.file_text.specs.Node.{Node}
 use Rattle.file_text.specs.Grammar.{Each}
-use Rattle.file_text.proofs.Names.{each-append}
+use Rattle.file_text.proofs.DistinctNamesStay.{each-append}
 use Rattle.graph_reader.specs.declared.field.Field.TheVariants as field
 use Rattle.graph_reader.specs.declared.actors.Actor.{Actor}
 use Rattle.graph_reader.specs.declared.channels.Channel.{Channel}
@@ -22,12 +22,12 @@ use Rattle.graph_reader.specs.TreeSteps
 use Rattle.graph_reader.specs.Sections.{phases_in, channel_row, table, section_of, properties_of}
 use Rattle.graph_reader.specs.Spelled.{Pairwise, EachTwo, ArePhased, HasNumbers, IsTimeEntry, IsSizeEntry, AreActors, AreChannels, IsEven, IsGraph, IsTable}
 use Rattle.graph_reader.specs.Laws.{Gives}
-use Rattle.graph_reader.proofs.Again
+use Rattle.graph_reader.proofs.SpelledTreesAreRead
 use Rattle.gen_graph.specs.GraphTrees.{actor_node, actor_nodes, no_actor, channel_node, channel_nodes, times_node, times_of, times_nodes, size_node, kind_word, properties_word, section_node, properties_node, application_node, graph_tree, written}
 use Rattle.graph_reader.specs.WritableNames.{IsWritableName}
 use Rattle.gen_graph.specs.Writable.{IsWritable}
 use Rattle.gen_graph.proofs.TreeTexts.{AreSmall, each_from_All, phases_count, spelled_text}
-use Rattle.gen_graph.proofs.Listed.{IsCalled, children_are, first_kept, second_kept, two_from_pairs}
+use Rattle.gen_graph.proofs.ElementsAreFound.{IsCalled, children_are, first_kept, second_kept, two_from_pairs}
 use Rattle.gen_graph.proofs.ActorsBack.{AreRates, IsRated, actors_back, actors_long, actors_read, channels_read, few_ports, two_names_read}
 use Rattle.gen_graph.proofs.ChannelsBack.{IsJoined, channels_apart, channels_back, channels_long}
 use Rattle.gen_graph.proofs.TimesBack.{HasTimes, all_known, times_apart, times_back, times_found, times_read}
@@ -176,8 +176,8 @@ module _ (k : Kind) (rows : List ActorRow) (cs : List ChannelRow) (keeps : Keeps
   abbrev whole : List Actor
   whole = actors_read cs 0 rows
 
-  abbrev joints : List Channel
-  joints = channels_read 0 cs
+  abbrev read_channels : List Channel
+  read_channels = channels_read 0 cs
 
   are_rows : AreRows cs (times_read rows) 0 rows
   are_rows = rows_known k rows cs (times_read rows) join is.phases keep 0 rows (omega arith) (λ j lt. let place : j ≡ 0 + j = omega arith in (ap (λ n. get_or rows n no_actor) (sym place), ap (λ n. slice_index (map (λ (r : ActorRow). r.phases) rows) n) (sym place) ∙ phases_by rows j lt)) keep (times_found rows two_actors)
@@ -195,10 +195,10 @@ module _ (k : Kind) (rows : List ActorRow) (cs : List ChannelRow) (keeps : Keeps
     few_ports = few_ports cs rows keeps.few_channels;
   }
 
-  are_channels : AreChannels whole (section_node g) joints
+  are_channels : AreChannels whole (section_node g) read_channels
   unfolding section_node word_of
   are_channels = record {
-    rows = subst (λ (es : List Node). Pairwise (Rattle.graph_reader.specs.Spelled.IsChannel whole) es joints)
+    rows = subst (λ (es : List Node). Pairwise (Rattle.graph_reader.specs.Spelled.IsChannel whole) es read_channels)
         (sym (children_are (codes "channel") (kind_word k) _ (actor_nodes cs 0 rows ++ channel_nodes rows 0 cs)
         ∙ second_kept (codes "channel") (actor_nodes cs 0 rows) (channel_nodes rows 0 cs) (actors_called (codes "channel") false refl cs 0 rows) (channels_called (codes "channel") true refl rows 0 cs)))
         (channels_back cs rows keeps.few_channels two_actors 0 cs (omega arith) (λ i d lt. ap (λ n. get_or cs n d) (let same : 0 + i ≡ i = omega arith in same)) (joined_all k rows keep cs join channel_names));
@@ -214,22 +214,22 @@ module _ (k : Kind) (rows : List ActorRow) (cs : List ChannelRow) (keeps : Keeps
       ∙ first_kept (codes "actorProperties") (times_nodes rows) (map size_node cs) (times_called (codes "actorProperties") true refl rows) (sizes_called (codes "actorProperties") false refl cs)))
       (times_back k whole rows keep (all_known cs 0 rows))
 
-  are_sizes : Pairwise (IsSizeEntry joints) (TreeSteps.children (codes "channelProperties") (properties_node g)) (map size_read cs)
+  are_sizes : Pairwise (IsSizeEntry read_channels) (TreeSteps.children (codes "channelProperties") (properties_node g)) (map size_read cs)
   unfolding properties_node
   are_sizes =
-      subst (λ (es : List Node). Pairwise (IsSizeEntry joints) es (map size_read cs))
+      subst (λ (es : List Node). Pairwise (IsSizeEntry read_channels) es (map size_read cs))
       (sym (children_are (codes "channelProperties") (properties_word k) _ (times_nodes rows ++ map size_node cs)
       ∙ second_kept (codes "channelProperties") (times_nodes rows) (map size_node cs) (times_called (codes "channelProperties") false refl rows) (sizes_called (codes "channelProperties") true refl cs)))
-      (sizes_back joints cs (sized_all (phases_of g) cs join) (all_channels_known 0 cs))
+      (sizes_back read_channels cs (sized_all (phases_of g) cs join) (all_channels_known 0 cs))
 
-  same_table : g ≡ table k whole joints (times_read rows) (map size_read cs)
+  same_table : g ≡ table k whole read_channels (times_read rows) (map size_read cs)
   unfolding table
   same_table =
       let actors = rows_back cs (times_read rows) 0 rows are_rows in
       let phases = all_phases cs (times_read rows) 0 rows are_rows in
       let channels = channel_rows_back (phases_of g) (map size_read cs) 0 cs (of_phases (phases_of g) cs join) (sizes_found cs two_channels) in
-      sym (ap (λ (rs : List ActorRow). record { kind = k; actors = rs; channels = map (channel_row (map (phases_in (times_read rows)) whole) (map size_read cs)) joints }) actors
-      ∙ (ap (λ (ps : List ℕ). record { kind = k; actors = rows; channels = map (channel_row ps (map size_read cs)) joints }) phases
+      sym (ap (λ (rs : List ActorRow). record { kind = k; actors = rs; channels = map (channel_row (map (phases_in (times_read rows)) whole) (map size_read cs)) read_channels }) actors
+      ∙ (ap (λ (ps : List ℕ). record { kind = k; actors = rows; channels = map (channel_row ps (map size_read cs)) read_channels }) phases
       ∙ ap (λ (ds : List ChannelRow). record { kind = k; actors = rows; channels = ds }) channels))
 
   one_section : (j : Kind) → j ≡ k → TreeSteps.children (word_of (section_of j)) (application_node g) ≡ section_node g ∷ []
@@ -252,7 +252,7 @@ module _ (k : Kind) (rows : List ActorRow) (cs : List ChannelRow) (keeps : Keeps
     section = section_node g;
     properties = Some (properties_node g);
     actors = whole;
-    channels = joints;
+    channels = read_channels;
     times = times_read rows;
     sizes = map size_read cs;
     one_section = one_section k refl;
@@ -280,4 +280,4 @@ module _ (k : Kind) (rows : List ActorRow) (cs : List ChannelRow) (keeps : Keeps
 -- what is written is read as the table
 pub reads_back : (g : GraphFile) → KeepsRules g → IsWritable g → (need_times : Bool) → (IsTrue need_times → IsTimed g) → Gives (written g) need_times g
 reads_back g keeps is need_times timed =
-    (graph_tree g, spelled_text g keeps is, Again.table_of need_times (graph_tree g) g (tree_back g.kind g.actors g.channels keeps is need_times timed))
+    (graph_tree g, spelled_text g keeps is, SpelledTreesAreRead.table_of need_times (graph_tree g) g (tree_back g.kind g.actors g.channels keeps is need_times timed))

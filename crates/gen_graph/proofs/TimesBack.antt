@@ -9,9 +9,9 @@ use Rattle.sd_base.specs.declared.tables.Kind.TheVariants.{Sdf}
 use Rattle.sd_base.specs.declared.tables.ActorRow.{ActorRow}
 use Rattle.sd_base.specs.declared.tables.ChannelRow.{ChannelRow}
 use Rattle.sd_base.specs.Tables.{ActorKeepsRules}
-use Rattle.sd_base.proofs.Truths.{same_bytes, bytes_differ}
+use Rattle.sd_base.proofs.ByteTestsDecide.{same_bytes, bytes_differ}
 use Rattle.file_text.specs.Grammar.{Each}
-use Rattle.file_text.proofs.Names.{each-append}
+use Rattle.file_text.proofs.DistinctNamesStay.{each-append}
 use Rattle.graph_reader.specs.declared.field.Field.TheVariants as field
 use Rattle.graph_reader.specs.declared.actors.Actor.{Actor}
 use Rattle.graph_reader.specs.declared.properties.TimeEntry.{TimeEntry}
@@ -20,11 +20,11 @@ use Rattle.graph_reader.specs.TreeSteps
 use Rattle.graph_reader.specs.Sections.{execution_of, counting_processor, is_default, times_at}
 use Rattle.graph_reader.specs.Spelled.{Pairwise, EachTwo, HasNumbers, IsTimeEntry}
 use Rattle.graph_reader.proofs.ElementPlaces.{Each-weaker}
-use Rattle.graph_reader.proofs.Found.{TimesDiffer}
+use Rattle.graph_reader.proofs.ReadTreesAreSpelled.{TimesDiffer}
 use Rattle.gen_graph.specs.GraphTrees.{numbers_text, ports_on, actor_node, actor_nodes, no_actor, channel_node, channel_nodes, processor_node, times_node, times_of, times_nodes, size_node, kind_word, properties_word, section_node, properties_node, application_node, graph_tree, written}
 use Rattle.gen_graph.proofs.TreeTexts.{times_small}
 use Rattle.gen_graph.proofs.NumbersBack.{spelled_back}
-use Rattle.gen_graph.proofs.Listed.{pair_both}
+use Rattle.gen_graph.proofs.ElementsAreFound.{pair_both}
 use Rattle.gen_graph.proofs.ActorsBack.{actors_read}
 
 -- ---- times

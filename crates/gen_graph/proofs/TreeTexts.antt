@@ -14,11 +14,11 @@ use Rattle.sd_base.specs.declared.tables.GraphFile.{GraphFile}
 use Rattle.sd_base.specs.declared.tables.ActorRow.{ActorRow}
 use Rattle.sd_base.specs.declared.tables.ChannelRow.{ChannelRow}
 use Rattle.sd_base.specs.Tables.{KeepsRules, ActorKeepsRules, ChannelKeepsRules, phases_of}
-use Rattle.sd_base.proofs.Truths.{bytes_other}
+use Rattle.sd_base.proofs.ByteTestsDecide.{bytes_other}
 use Rattle.file_text.specs.declared.tree.Attribute.{Attribute}
 use Rattle.file_text.specs.Node.{Node}
 use Rattle.file_text.specs.Grammar.{Each, byte, items_text, items_value, is_character, is_plain, IsQuoted, AreDistinct, IsAttribute, IsDeclaration, IsProlog, IsText}
-use Rattle.file_text.proofs.Names.{each-append}
+use Rattle.file_text.proofs.DistinctNamesStay.{each-append}
 use Rattle.gen_graph.specs.declared.direction.Direction.{Direction}
 use Rattle.gen_graph.specs.declared.direction.Direction.TheVariants.{Out, In}
 use Rattle.gen_graph.specs.NodeTexts.{element_text}
@@ -26,7 +26,7 @@ use Rattle.gen_graph.specs.GraphTrees.{attribute, element, leaf, numbers_text, p
 use Rattle.graph_reader.specs.WritableNames.{IsWritableName}
 use Rattle.graph_reader.proofs.ElementPlaces.{Each-weaker}
 use Rattle.gen_graph.specs.Writable.{IsWritable}
-use Rattle.gen_graph.proofs.Values.{ascii_utf8}
+use Rattle.gen_graph.proofs.ValuesAreSpelled.{ascii_utf8}
 use Rattle.gen_graph.proofs.ElementTexts.{word, IsGoodName, IsGoodValue, IsGoodAttribute, good_word, IsFine, good_nodes, depth_nodes, fine_both, line_of, element_utf8}
 
 -- ---- lists

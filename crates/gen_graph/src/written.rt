@@ -98,7 +98,7 @@ fn put_section(alloc: Global, text: &mut Vec<u8>, graph: &GraphFile) -> Result<(
     put_inside(text, word, inside.as_slice())
 }
 
-#[tactic(auto, using(crate::proofs::OneMore::elements_joined))]
+#[tactic(auto, using(crate::proofs::MadeListsGrow::elements_joined))]
 fn section_text(alloc: Global, graph: &GraphFile) -> Result<Vec<u8>, AllocError>
     requires { KeepsRules graph.now }
     ensures { IfOk result (λ t. t.items ≡ elements_text (nodes (actor_nodes graph.now.channels 0 graph.now.actors ++ channel_nodes graph.now.actors 0 graph.now.channels))) }
@@ -150,7 +150,7 @@ fn put_properties(alloc: Global, text: &mut Vec<u8>, graph: &GraphFile) -> Resul
     put_inside(text, word, inside.as_slice())
 }
 
-#[tactic(auto, using(crate::proofs::OneMore::elements_joined))]
+#[tactic(auto, using(crate::proofs::MadeListsGrow::elements_joined))]
 fn properties_text(alloc: Global, graph: &GraphFile) -> Result<Vec<u8>, AllocError>
     ensures { IfOk result (λ t. t.items ≡ elements_text (nodes (times_nodes graph.now.actors ++ map size_node graph.now.channels))) }
 {

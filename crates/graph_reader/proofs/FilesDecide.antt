@@ -10,7 +10,7 @@ use Rattle.graph_reader.specs.declared.error.ReadError.TheVariants as reading
 use Rattle.graph_reader.specs.FirstFaults.{BreaksRuleOf, IsFirstFaultOf}
 use Rattle.graph_reader.specs.Sections.{table_of}
 use Rattle.graph_reader.specs.Laws.{GivesBy, HasOneTable, HasOneFault, ReadHasNoFault, ReadIsTimed, ReadKeepsRules}
-use Rattle.graph_reader.proofs.Rules.{keeps_rules, is_timed}
+use Rattle.graph_reader.proofs.TablesKeepRules.{keeps_rules, is_timed}
 
 -- what is known of texts: one tree, one fault, and not both
 abbrev pub OneTree : Type 0

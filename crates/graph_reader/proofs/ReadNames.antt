@@ -24,9 +24,9 @@ use Rattle.graph_reader.specs.WritableNames.{HasWritableNames, IsWritableName}
 use Rattle.graph_reader.specs.Laws.{ReadIsWritable}
 use Rattle.file_text.specs.Values.{HasCharacters}
 use Rattle.file_text.proofs.ValueTexts.{text-characters}
-use Rattle.graph_reader.proofs.Rules.{is_timed}
-use Rattle.graph_reader.proofs.Found.{table_of as found}
-use Rattle.graph_reader.proofs.Values.{attribute-characters, children-characters}
+use Rattle.graph_reader.proofs.TablesKeepRules.{is_timed}
+use Rattle.graph_reader.proofs.ReadTreesAreSpelled.{table_of as found}
+use Rattle.graph_reader.proofs.ValuesAreCharacters.{attribute-characters, children-characters}
 
 pub all-from_each : {X : Type 0} (P : X → Type 0) (xs : List X) → Each P xs → All P xs
 all-from_each P [] each = All-nil P

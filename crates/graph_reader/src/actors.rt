@@ -23,6 +23,7 @@ pub enum Direction {
     Out,
 }
 
+/// A port of an actor, as a graph file has it. No other port of the actor has its name.
 pub struct Port {
     pub name: Text,
     pub direction: Direction,
@@ -41,6 +42,7 @@ impl Drop for Port {
     }
 }
 
+/// An actor as its own element has it, with its ports in file order; its times stand in the properties.
 pub struct Actor {
     pub name: Text,
     pub ports: Register<Port>,
@@ -167,7 +169,7 @@ fn read_actor(
 
 /// The actors of a section, of which there is one at least.
 #[tactic(auto, unfolding(crate::specs::Sections::actors_of, crate::specs::TreeSteps::children))]
-pub fn read_actors(
+pub(crate) fn read_actors(
     alloc: Global,
     kind: Kind,
     of: &str,

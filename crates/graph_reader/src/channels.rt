@@ -37,6 +37,7 @@ impl Drop for End {
     }
 }
 
+/// A channel as its own element has it, with its initial tokens; the size of a token stands in the properties.
 pub struct Channel {
     pub name: Text,
     pub source: End,
@@ -226,7 +227,7 @@ fn read_channel(
 
 /// The channels of a section.
 #[tactic(auto, unfolding(crate::specs::Sections::channels_of, crate::specs::TreeSteps::children))]
-pub fn read_channels(
+pub(crate) fn read_channels(
     alloc: Global,
     of: &str,
     actors: &Register<Actor>,

@@ -11,7 +11,8 @@ use crate::{Field, ReadError};
 use file_text::{Attribute, Element};
 use std::alloc::Global;
 
-pub fn is_named(element: &Element, word: &str) -> bool
+/// Whether the element has this name.
+pub(crate) fn is_named(element: &Element, word: &str) -> bool
     ensures { result ≡ bytes_eq (name_of (tree_of element.now)) word.now }
 {
     element.name.as_str() == word
@@ -42,7 +43,7 @@ pub fn split_named<'a>(elements: &'a [Element], word: &str) -> Option<(&'a Eleme
 
 /// The first element in an element that is named so.
 #[tactic(auto, unfolding(crate::specs::TreeSteps::first_child, crate::specs::TreeSteps::children))]
-pub fn first_child<'a>(element: &'a Element, word: &str) -> Option<&'a Element>
+pub(crate) fn first_child<'a>(element: &'a Element, word: &str) -> Option<&'a Element>
     ensures { option_map (λ c. tree_of c.now) result ≡ first_child word.now (tree_of element.now) }
 {
     match split_named(elements_in(element), word) {
@@ -90,7 +91,7 @@ pub fn required<'a>(
 
 /// The element in an element that may stand once.
 #[tactic(auto, unfolding(crate::specs::TreeSteps::at_most_one, crate::specs::TreeSteps::children))]
-pub fn at_most_one<'a>(
+pub(crate) fn at_most_one<'a>(
     alloc: Global,
     element: &'a Element,
     what: Field,

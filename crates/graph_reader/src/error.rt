@@ -80,6 +80,7 @@ pub fn copied(alloc: Global, text: &str) -> Result<Text, AllocError>
     Ok(Text::new(String::from_str(alloc, text)?))
 }
 
+/// The refusal where what has to be there isn't, or the error for want of memory.
 pub fn missing(alloc: Global, what: Field, of: &str) -> ReadError
     ensures { result ≢ ReadError.NoMemory → result ≡ ReadError.Missing what of.now }
 {
@@ -89,6 +90,7 @@ pub fn missing(alloc: Global, what: Field, of: &str) -> ReadError
     }
 }
 
+/// The refusal of a name that stands for nothing, or the error for want of memory.
 pub fn unknown(alloc: Global, what: Field, name: &str) -> ReadError
     ensures { result ≢ ReadError.NoMemory → result ≡ ReadError.Unknown what name.now }
 {
@@ -98,6 +100,7 @@ pub fn unknown(alloc: Global, what: Field, name: &str) -> ReadError
     }
 }
 
+/// The refusal of what stands again and may stand once, or the error for want of memory.
 pub fn twice(alloc: Global, what: Field, name: &str) -> ReadError
     ensures { result ≢ ReadError.NoMemory → result ≡ ReadError.Twice what name.now }
 {
@@ -107,7 +110,8 @@ pub fn twice(alloc: Global, what: Field, name: &str) -> ReadError
     }
 }
 
-pub fn bad_word(alloc: Global, what: Field, of: &str) -> ReadError
+/// The refusal of a word that is none of those allowed, or the error for want of memory.
+pub(crate) fn bad_word(alloc: Global, what: Field, of: &str) -> ReadError
     ensures { result ≢ ReadError.NoMemory → result ≡ ReadError.BadWord what of.now }
 {
     match copied(alloc, of) {
@@ -116,7 +120,8 @@ pub fn bad_word(alloc: Global, what: Field, of: &str) -> ReadError
     }
 }
 
-pub fn bad_number(alloc: Global, what: Field, of: &str) -> ReadError
+/// The refusal of a number that has a bad form or is 0, or the error for want of memory.
+pub(crate) fn bad_number(alloc: Global, what: Field, of: &str) -> ReadError
     ensures { result ≢ ReadError.NoMemory → result ≡ ReadError.BadNumber what of.now }
 {
     match copied(alloc, of) {
@@ -125,7 +130,8 @@ pub fn bad_number(alloc: Global, what: Field, of: &str) -> ReadError
     }
 }
 
-pub fn phase_count(alloc: Global, actor: &str) -> ReadError
+/// The refusal of lists of the actor that differ in their phases, or the error for want of memory.
+pub(crate) fn phase_count(alloc: Global, actor: &str) -> ReadError
     ensures { result ≢ ReadError.NoMemory → result ≡ ReadError.PhaseCount actor.now }
 {
     match copied(alloc, actor) {
@@ -134,6 +140,7 @@ pub fn phase_count(alloc: Global, actor: &str) -> ReadError
     }
 }
 
+/// The refusal of tokens on the channel that differ between scenarios, or the error for want of memory.
 pub fn shared_differ(alloc: Global, channel: &str) -> ReadError
     ensures { result ≢ ReadError.NoMemory → result ≡ ReadError.SharedDiffer channel.now }
 {
@@ -143,6 +150,7 @@ pub fn shared_differ(alloc: Global, channel: &str) -> ReadError
     }
 }
 
+/// The refusal of a state after which none may come, or the error for want of memory.
 pub fn dead_end(alloc: Global, state: &str) -> ReadError
     ensures { result ≢ ReadError.NoMemory → result ≡ ReadError.DeadEnd state.now }
 {

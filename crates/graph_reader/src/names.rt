@@ -42,7 +42,7 @@ pub fn new_name<'a, R: Named>(
 
 /// The name of the row of which an element speaks, and of which no earlier element speaks.
 #[tactic(auto, unfolding(crate::specs::Sections::mention))]
-pub fn mention<'a, R: Named, E: Named>(
+pub(crate) fn mention<'a, R: Named, E: Named>(
     alloc: Global,
     what: Field,
     of: &str,

@@ -94,7 +94,7 @@ pub fn within(what: Quantity, limit: u64, n: u64) -> Result<u64, ReadError>
 /// What a number means: the refusal of one that isn't well formed names the field and what that is of, the refusal of one above
 /// the limit the quantity.
 #[derive(Clone, Copy)]
-pub struct Meaning<'a> {
+pub(crate) struct Meaning<'a> {
     pub what: Field,
     pub of: &'a str,
     pub quantity: Quantity,
@@ -115,7 +115,7 @@ pub fn number(alloc: Global, text: &str, meaning: &Meaning<'_>) -> Result<u64, R
 
 /// A number within a limit that isn't 0.
 #[tactic(auto, unfolding(crate::specs::NumberTexts::positive))]
-pub fn positive(alloc: Global, text: &str, meaning: &Meaning<'_>) -> Result<u64, ReadError>
+pub(crate) fn positive(alloc: Global, text: &str, meaning: &Meaning<'_>) -> Result<u64, ReadError>
     requires { meaning.now.limit < GREATEST }
     ensures { let m = meaning.now in Gives (λ n. n) result (positive m.what m.of.now m.quantity m.limit text.now) }
 {
@@ -303,7 +303,7 @@ pub fn numbers(
 }
 
 /// A list of its own with these numbers.
-pub fn list_copy(alloc: Global, list: &[u64]) -> Result<Rows<u64>, AllocError>
+pub(crate) fn list_copy(alloc: Global, list: &[u64]) -> Result<Rows<u64>, AllocError>
     ensures { IfOk result (λ copy. copy ≡ list.now) }
 {
     Ok(Rows::from_vec(Vec::from_slice(alloc, list)?))

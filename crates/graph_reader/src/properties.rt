@@ -22,7 +22,9 @@ use std::alloc::Global;
 
 /// The times that are given for an actor, by phase; none, where none are given.
 pub struct TimeEntry {
+    /// The name of the actor.
     pub actor: Text,
+    /// In time units, as the file has them.
     pub times: Rows<u64>,
 }
 
@@ -39,7 +41,9 @@ impl Drop for TimeEntry {
 /// The size that is given for a channel.
 #[derive(Drop)]
 pub struct SizeEntry {
+    /// The name of the channel.
     pub channel: Text,
+    /// The memory that one token needs.
     pub size: u64,
 }
 
@@ -129,7 +133,7 @@ fn read_time(
 
 /// The times that the properties give.
 #[tactic(auto, unfolding(crate::specs::Sections::times_of, crate::specs::TreeSteps::children))]
-pub fn read_times(
+pub(crate) fn read_times(
     alloc: Global,
     kind: Kind,
     of: &str,
@@ -195,7 +199,7 @@ fn read_size(
 
 /// The sizes that the properties give.
 #[tactic(auto, unfolding(crate::specs::Sections::sizes_of, crate::specs::TreeSteps::children))]
-pub fn read_sizes(
+pub(crate) fn read_sizes(
     alloc: Global,
     of: &str,
     channels: &Register<Channel>,

@@ -19,6 +19,7 @@ use std::marker::Model;
 pub trait Named {
     ghost name_of: { Self → List ℕ };
 
+    /// The name, as the file has it.
     fn name(&self) -> &Text
         ensures { result.now ≡ name_of self.now };
 }
@@ -65,6 +66,7 @@ impl<R: Named> Model for Register<R> {
 }
 
 impl<R: Named> Register<R> {
+    /// No rows, without memory.
     pub fn new(alloc: Global) -> Register<R>
         ensures { result ≡ [] }
     {
@@ -74,18 +76,21 @@ impl<R: Named> Register<R> {
         }
     }
 
+    /// How many rows there are.
     pub fn len(&self) -> usize
         ensures { result ≡ length self.now }
     {
         self.rows.len()
     }
 
+    /// Whether there are no rows.
     pub fn is_empty(&self) -> bool
         ensures { result ≡ (length self.now == 0) }
     {
         self.rows.len() == 0
     }
 
+    /// The rows in the order in which they were put.
     pub fn as_slice(&self) -> &[R]
         ensures { result.now ≡ self.now }
     {
@@ -103,6 +108,7 @@ impl<R: Named> Register<R> {
         rows
     }
 
+    /// Whether some row has this name.
     pub fn has(&self, name: &str) -> bool
         ensures { result ≡ is_among name.now (map R.name_of self.now) }
     {
@@ -116,6 +122,7 @@ impl<R: Named> Register<R> {
         self.names.get_index_of(name)
     }
 
+    /// The row of this number, from 0; none past the last one.
     pub fn get(&self, number: usize) -> Option<&R>
         ensures { option_copied result ≡ slice_get self.now number }
     {

@@ -300,6 +300,7 @@ fn timed_table(
     all_timed(alloc, need_times, rows)
 }
 
+/// Tests that the outermost element is `sdf3`; the refusal of another says that it is missing.
 #[tactic(auto, unfolding(crate::specs::Sections::root_of))]
 pub fn test_root(alloc: Global, root: &Element) -> Result<(), ReadError>
     ensures { Gives (λ _. tree_of root.now) result (root_of (tree_of root.now)) }

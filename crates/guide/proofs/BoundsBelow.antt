@@ -6,18 +6,18 @@ use Rattle.sd_base.specs.Lawful.{Lawful}
 use Rattle.sd_base.specs.Rates.{Rate}
 use Rattle.sd_base.specs.Schedules.{HasInputs}
 use Rattle.sd_base.specs.declared.numbers.Fraction.{Fraction}
-use Rattle.sd_base.proofs.Parts.{balanced}
+use Rattle.sd_base.proofs.LawfulIsRegular.{balanced}
 use Rattle.storage.specs.BoundedNets.{bound}
 use Rattle.storage.specs.Distributions.{AtMost}
-use Rattle.storage.proofs.Easings.{eases-rates}
-use Rattle.storage.proofs.Fits.{same-channels}
+use Rattle.storage.proofs.EasingKeepsSchedules.{eases-rates}
+use Rattle.storage.proofs.DistributionsShareLaws.{same-channels}
 use Rattle.storage.proofs.FrontsFromMembers.{no_less}
-use Rattle.storage.proofs.Roundings.{bound-eases, more-eases}
-use Rattle.storage.proofs.TouchedInputs.{inputs-touch, touched-inputs}
+use Rattle.storage.proofs.RoundingKeepsNeeds.{bound-eases, more-eases}
+use Rattle.storage.proofs.IncidentInputs.{inputs-incident, incident-inputs}
 use Rattle.guide.specs.Covering.{CoversOn}
 use Rattle.guide.specs.Evaluations.{Bounds, IsEvaluable}
 use Rattle.guide.proofs.RatesExist.{evaluable-lawful, rate-of}
-use Rattle.guide.proofs.Roomier.{roomier, roomier-distribution, roomier-first, roomier-held, roomier-same, roomier-second}
+use Rattle.guide.proofs.RoomierCoversBoth.{roomier, roomier-distribution, roomier-first, roomier-held, roomier-same, roomier-second}
 
 pub rates-rise : (net : Net) (ds es : List (Option ℕ)) (p q x y : ℕ) → Lawful net → AtMost ds es → Rate (bound net ds) p q → Rate (bound net es) x y → p * y ≤ x * q
 rates-rise net ds es p q x y laws most one other =
@@ -29,7 +29,7 @@ module _ (net : Net) (laws : Lawful net) (ds es : List (Option ℕ)) (one : IsEv
 
   more-inputs : HasInputs (bound net more)
   unfolding more
-  more-inputs = touched-inputs net (λ a actor. let input = one.inputs a actor in inputs-touch net ds a input.0 input.1 input.2) (roomier ds es) (roomier-distribution net.channels ds es one.distribution other.distribution)
+  more-inputs = incident-inputs net (λ a actor. let input = one.inputs a actor in inputs-incident net ds a input.0 input.1 input.2) (roomier ds es) (roomier-distribution net.channels ds es one.distribution other.distribution)
 
   more-evaluable : IsEvaluable net more
   unfolding more

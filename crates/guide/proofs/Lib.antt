@@ -1,12 +1,12 @@
-pub mod Shown
-pub mod Evaluating
-pub mod Blocked
-pub mod Listing
+pub mod EnlargedAreInGuide
+pub mod LiveNetsAreEvaluated
+pub mod BlockedNetsAreEvaluated
+pub mod RisingListsGrow
 pub mod MoreRoom
 pub mod LoopTables
 pub mod RatesExist
-mod Roomier
+mod RoomierCoversBoth
 pub mod BoundsBelow
 pub mod ShownWithMoreRoom
-mod Reached
-mod Elsewhere
+mod ReachedCountsAreFound
+mod OtherRoomGainsNothing

@@ -8,7 +8,7 @@ use Rattle.sd_base.specs.Connection.{IsConnected}
 use Rattle.sd_base.specs.Schedules.{count_of, start_of, HasInputs}
 use Rattle.sd_base.specs.SelfTimed.{earliest}
 use Rattle.sd_base.specs.Rates.{IsLoop, IsLoopTable}
-use Rattle.sd_base.proofs.Returns.{loop-whole}
+use Rattle.sd_base.proofs.LoopsSpanRounds.{loop-whole}
 
 -- what f gives for n numbers from a first one on
 pub listed : {A : Type 0} → (ℕ → A) → ℕ → ℕ → List A

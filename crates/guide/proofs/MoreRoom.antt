@@ -11,8 +11,8 @@ use Rattle.liveness.specs.RoundAnswers.{AreReachedCounts}
 use Rattle.storage.specs.BoundedNets.{bound, spaces_from}
 use Rattle.storage.specs.Distributions.{AtMost, IsDistribution}
 use Rattle.storage.specs.inside.Easing.{Eases}
-use Rattle.storage.proofs.Easings.{eases-fires, eases-live}
-use Rattle.storage.proofs.Roundings.{bound-eases, more-eases}
+use Rattle.storage.proofs.EasingKeepsSchedules.{eases-fires, eases-live}
+use Rattle.storage.proofs.RoundingKeepsNeeds.{bound-eases, more-eases}
 
 pub more-room : (net : Net) (ds es : List (Option ℕ)) → AtMost ds es → Eases (bound net ds) (bound net es)
 more-room net ds es most = bound-eases net ds es (more-eases 0 net.channels ds es most)

@@ -7,16 +7,16 @@ use Rattle.sd_base.specs.Lawful.{Lawful}
 use Rattle.sd_base.specs.Rates.{IsLoop, IsLoopTable, Rate}
 use Rattle.sd_base.specs.Connection.{IsConnected}
 use Rattle.sd_base.specs.Untimed.{Blocks, IsEnd, IsLive}
-use Rattle.sd_base.proofs.Divisors.{gcd_pos, quotients, some_gcd}
-use Rattle.sd_base.proofs.Ends.{live_or_blocked}
+use Rattle.sd_base.proofs.LeastMultiplesDivide.{gcd_pos, quotients, some_gcd}
+use Rattle.sd_base.proofs.FiringOrdersEnd.{live_or_blocked}
 use Rattle.sd_base.proofs.LoopRates.{table-rate}
 use Rattle.storage.specs.BoundedNets.{bound}
 use Rattle.storage.proofs.BlockedRates.{blocked-rate}
-use Rattle.storage.proofs.Lawfulness.{bound-lawful}
+use Rattle.storage.proofs.BoundingKeepsLaws.{bound-lawful}
 use Rattle.storage.proofs.SpacesJoinEnds.{bound-strong}
 use Rattle.lasso.proofs.LoopsClose.{loop-closes}
 use Rattle.guide.specs.Evaluations.{IsEvaluable}
-use Rattle.guide.proofs.Evaluating.{bound-connected}
+use Rattle.guide.proofs.LiveNetsAreEvaluated.{bound-connected}
 use Rattle.guide.proofs.LoopTables.{loop-table, rounds_of, before_of, starts_of}
 
 module _ (net : Net) (laws : Lawful net) (ds : List (Option ℕ)) (fits : IsEvaluable net ds) where

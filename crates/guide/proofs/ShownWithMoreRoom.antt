@@ -8,22 +8,22 @@ use Rattle.sd_base.specs.Net.{Channel, Net, channel_at}
 use Rattle.sd_base.specs.Lawful.{Lawful}
 use Rattle.sd_base.specs.Rates.{IsLoop, Rate}
 use Rattle.sd_base.specs.Untimed.{none_fired, Blocks, IsEnd, IsLive}
-use Rattle.sd_base.proofs.Ends.{live_or_blocked}
+use Rattle.sd_base.proofs.FiringOrdersEnd.{live_or_blocked}
 use Rattle.firing.specs.declared.table.LoopTable.{LoopTable}
 use Rattle.critical.specs.declared.cycle.NeedCycle.{NeedCycle}
 use Rattle.critical.specs.Cycles.{HoldsOn}
 use Rattle.critical.specs.Spaces.{no_step, IsSpaceAt}
 use Rattle.critical.specs.CriticalCycles.{AreTight}
-use Rattle.critical.proofs.Storage.{cycle-places, number-place}
+use Rattle.critical.proofs.ListedSpacesRise.{cycle-places, number-place}
 use Rattle.critical.proofs.TightCycles.{cycle-tight}
 use Rattle.storage.specs.BoundedNets.{bound}
 use Rattle.storage.specs.ClosedLists.{AgreesOn}
 use Rattle.storage.specs.Distributions.{AtMost, capacity_at}
 use Rattle.storage.specs.ShownSpaces.{ShowsSpace}
 use Rattle.storage.proofs.BlockedRates.{blocked-rate}
-use Rattle.storage.proofs.Cycling.{channel-stays, holds-still}
-use Rattle.storage.proofs.Easings.{eases-fires}
-use Rattle.storage.proofs.Kept.{blocks-still}
+use Rattle.storage.proofs.NeedCyclesHold.{channel-stays, holds-still}
+use Rattle.storage.proofs.EasingKeepsSchedules.{eases-fires}
+use Rattle.storage.proofs.BlockingStays.{blocks-still}
 use Rattle.storage.proofs.SpacesJoinEnds.{bound-strong}
 use Rattle.guide.specs.declared.rating.Evaluation.{Evaluation}
 use Rattle.guide.specs.declared.rating.Outcome.{Outcome}
@@ -33,7 +33,7 @@ use Rattle.guide.specs.Guides.{IsInGuide}
 use Rattle.guide.proofs.BoundsBelow.{rates-rise}
 use Rattle.guide.proofs.MoreRoom.{more-room}
 use Rattle.guide.proofs.RatesExist.{evaluable-lawful, live-loop, looped, looped-rate, looped-table}
-use Rattle.guide.proofs.Shown.{chain-shows}
+use Rattle.guide.proofs.EnlargedAreInGuide.{chain-shows}
 
 -- the same room on what counts show that block the first
 blocked-guide : (net : Net) (ds es : List (Option ℕ)) (rate : Fraction) (enlarge counts : List ℕ) (lacks : List (Option ℕ)) → AtMost ds es → AgreesOn enlarge ds es → IsBlockedOutcome net ds rate enlarge counts lacks → (c : ℕ) → Contains enlarge c → IsInGuide net es c

@@ -8,16 +8,16 @@ use Rattle.sd_base.specs.SelfTimed.{earliest, IsEvent, is_event, events_by, shap
 use Rattle.sd_base.specs.Untimed.{IsLive}
 use Rattle.sd_base.specs.Lawful.{Lawful}
 use Rattle.sd_base.specs.Rates.{IsLoop}
-use Rattle.sd_base.proofs.Parts.{regular, wired, balanced}
-use Rattle.sd_base.proofs.Counts.{early_at, ended_at, ended-at-is, full-along, full-at}
-use Rattle.sd_base.proofs.Events.{event-tells}
-use Rattle.sd_base.proofs.Liveness.{live-never-stuck}
-use Rattle.sd_base.proofs.Tight.{earliest-within}
+use Rattle.sd_base.proofs.LawfulIsRegular.{regular, wired, balanced}
+use Rattle.sd_base.proofs.EndsDecideCounts.{early_at, ended_at, ended-at-is, full-along, full-at}
+use Rattle.sd_base.proofs.EndsAreEvents.{event-tells}
+use Rattle.sd_base.proofs.LiveNetsGoOn.{live-never-stuck}
+use Rattle.sd_base.proofs.StartsMeetEnds.{earliest-within}
 use Rattle.selftimed.specs.Moves.{IsNextEvent}
 use Rattle.selftimed.specs.declared.shape.Shape.{Shape}
 use Rattle.loops.specs.LoopAnswers.{FirstDiffer, IsTooManyStarts, PassesStarts}
-use Rattle.loops.proofs.Ranks.{event-test, rank-first, rank-rises, rank-grows, rank-orders, rank-after, starts-rise}
-use Rattle.lasso.proofs.Keys.{alike, alike-tells, alike-holds}
+use Rattle.loops.proofs.RanksRise.{event-test, rank-first, rank-rises, rank-grows, rank-orders, rank-after, starts-rise}
+use Rattle.lasso.proofs.AlikeShapesAreEqual.{alike, alike-tells, alike-holds}
 
 -- the shape that stands at a moment
 abbrev standing : Net → ℕ → Shape

@@ -1,8 +1,8 @@
-pub mod Keys
+pub mod AlikeShapesAreEqual
 pub mod OneEnding
 pub mod EventsGoOn
-pub mod Pigeonholes
-pub mod Digits
-pub mod Lags
+pub mod TwoShareValue
+pub mod DigitsTellLists
+pub mod LagsStayBounded
 pub mod ShapeNumbers
 pub mod LoopsClose

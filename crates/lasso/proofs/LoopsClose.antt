@@ -12,16 +12,16 @@ use Rattle.sd_base.specs.Lawful.{Lawful}
 use Rattle.sd_base.specs.Connection.{IsStronglyConnected}
 use Rattle.sd_base.specs.Rates.{IsLoop}
 use Rattle.sd_base.specs.Untimed.{IsLive}
-use Rattle.sd_base.proofs.Alike.{shape-read}
-use Rattle.sd_base.proofs.Counts.{early_at, ended_at}
-use Rattle.sd_base.proofs.Lists.{entry-le-sum}
-use Rattle.sd_base.proofs.Parts.{regular}
+use Rattle.sd_base.proofs.EqualShapesRepeat.{shape-read}
+use Rattle.sd_base.proofs.EndsDecideCounts.{early_at, ended_at}
+use Rattle.sd_base.proofs.ElementsKeepPlaces.{entry-le-sum}
+use Rattle.sd_base.proofs.LawfulIsRegular.{regular}
 use Rattle.loops.specs.LoopAnswers.{FirstDiffer}
-use Rattle.loops.proofs.Ranks.{rank-rises}
+use Rattle.loops.proofs.RanksRise.{rank-rises}
 use Rattle.lasso.proofs.EventsGoOn.{loop-or-differ, numbered}
-use Rattle.lasso.proofs.Lags.{lead, running, standing}
-use Rattle.lasso.proofs.Pigeonholes.{AreTwoAlike, two-alike}
-use Rattle.lasso.proofs.Digits.{AreDigits}
+use Rattle.lasso.proofs.LagsStayBounded.{lead, running, standing}
+use Rattle.lasso.proofs.TwoShareValue.{AreTwoAlike, two-alike}
+use Rattle.lasso.proofs.DigitsTellLists.{AreDigits}
 use Rattle.lasso.proofs.ShapeNumbers.{IsSmallShape, map-digits, number-small, range-digits, range-rows, same-number, shape_number, shape_numbers}
 
 module _ (net : Net) (laws : Lawful net) (fed : HasInputs net) (strong : IsStronglyConnected net) where

@@ -9,10 +9,10 @@ use Rattle.sd_base.specs.Schedules.{HasInputs, count_of, start_of}
 use Rattle.sd_base.specs.SelfTimed.{earliest, events_by, shape_at, starts_by}
 use Rattle.sd_base.specs.Lawful.{Lawful}
 use Rattle.sd_base.specs.Rates.{IsLoop, IsLoopTable}
-use Rattle.sd_base.proofs.Parts.{balanced}
+use Rattle.sd_base.proofs.LawfulIsRegular.{balanced}
 use Rattle.firing.specs.declared.table.LoopTable.{LoopTable}
 use Rattle.loops.specs.LoopAnswers.{IsFound, IsStatesSpent, IsTooManyStarts}
-use Rattle.loops.proofs.Ranks.{rank-orders, starts-rise}
+use Rattle.loops.proofs.RanksRise.{rank-orders, starts-rise}
 
 -- a loop ends no later than another one
 ends-first : (net : Net) (e p f q : ℕ) → IsLoop net e p → IsLoop net f q → f + q ≤ e + p

@@ -4,7 +4,7 @@ use Rattle.std.specs.Prelude.{slice_index_or}
 use Rattle.std.specs.List.{range_with_len}
 use Rattle.std.proofs.lemmas.List.{length-map}
 use Rattle.sd_base.specs.SelfTimed.{Shape}
-use Rattle.lasso.proofs.Digits.{AreDigits, AreRows, code, code-small, numbers, one-digit, rows-digits, same-digits, same-rows}
+use Rattle.lasso.proofs.DigitsTellLists.{AreDigits, AreRows, code, code-small, numbers, one-digit, rows-digits, same-digits, same-rows}
 
 -- the numbers of a shape are digits, and its lists no longer than so many
 pub record IsSmallShape (base most : ℕ) (s : Shape) : Type 0 where

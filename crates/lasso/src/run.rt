@@ -20,7 +20,7 @@ use std::alloc::Global;
 /// loop, for each of some three rounds, and for some 4,000 starts at most where a round has up to 256. Cost by events: an
 /// execution mostly a quarter longer than one up to the first repeat, at most some two and a half times as long, and where a
 /// refusal comes twice as long as what is allowed at most; where more than `STARTS` firings start, two more beside each other.
-/// Memory: two checkpoints and the present shape, and at most `STARTS` starts and as many events, with a print each.
+/// Memory: two checkpoints and the present shape, and at most `STARTS` starts and as many events, with a fingerprint each.
 pub fn run_loop<F: Firing, L: Ledger>(
     alloc: Global,
     net: &F,

@@ -1,6 +1,7 @@
 -- Where a search by levels stands between two calls.
-use Rattle.std.specs.Prelude.{◌≡◌, ◌≢◌, ℕ, ◌+◌, ◌≤◌, ◌<◌, ◌⊎◌, All, Contains, Option, List, [], ◌∷◌, ◌++◌, length, map, slice_index_or}
+use Rattle.std.specs.Prelude.{◌≡◌, ℕ, ◌+◌, ◌≤◌, ◌<◌, ◌⊎◌, All, Contains, Option, List, ◌++◌, length, map, slice_index_or}
 use Rattle.std.specs.declared.cmp.Ordering.{Ordering}
+use Rattle.std.specs.List.Sorted.{IsPermutation, IsStrictlySortedBy}
 use Rattle.sd_base.specs.Net.{Channel, nowhere}
 use Rattle.storage.specs.Distributions.{storage_of}
 use Rattle.storage.specs.StorageOrder.{AreInOrder}
@@ -68,21 +69,17 @@ module _ {H : Type 0} where
   -- no more than is allowed
   pub record IsFrontier (cs : List Channel) (start : List (Option ℕ)) (floor : ℕ) (visits : List Visit) (taken : List (List (Option ℕ))) (levels : Levels H) : Type 0 where
     pub over : IsOver cs levels.channels
-    pub spread : IsSpread cs start levels.bounds.total floor visits taken levels.waiting.keys
-    pub found : levels.found ≡ length visits + length taken + length levels.waiting.keys
+    pub spread : IsSpread cs start levels.bounds.total floor visits taken levels.waiting
+    pub found : levels.found ≡ length visits + length taken + length levels.waiting
     pub few : levels.found ≤ levels.bounds.distributions
 
-  -- the first of the list, if there is one, needs another storage
-  abbrev pub StopsAt : ℕ → List (Found H) → Type 0
-  StopsAt total [] = Unit {0}
-  StopsAt total (f ∷ fs) = f.total ≢ total
-
-  -- a level was taken off those that waited: the first ones, as long as they need the storage of the first
+  -- a level was taken off those that waited: all with the least storage, in lexicographic order
   pub record IsLevelTaken (total : ℕ) (level old new : List (Found H)) : Type 0 where
-    pub parts : old ≡ level ++ new
+    pub parts : IsPermutation old (level ++ new)
     pub totals : All (λ (f : Found H). f.total ≡ total) level
     pub some : 1 ≤ length level
-    pub stops : StopsAt total new
+    pub later : All (λ (f : Found H). total < f.total) new
+    pub order : IsStrictlySortedBy found_order level
 
   -- one to which a visit leads within the limit, with its storage and the hint
   pub record IsFoundBy (cs : List Channel) (limit : ℕ) (v : Visit) (hint : H) (f : Found H) : Type 0 where

@@ -1,2 +1,4 @@
 pub mod Heads
+pub mod Hashes
+pub mod Sets
 pub mod Waiting

@@ -2,16 +2,21 @@ ghost use Rattle.std.specs.Prelude.{◌≡◌, IfOk};
 ghost use Rattle.std.specs.Cmp.{partial_equiv_from_equiv, po, eq_by_cmp_equiv};
 ghost use Rattle.std.specs.Ordering.{eq_by_cmp, as_partial_cmp};
 ghost use Rattle.std.proofs.Common.{refl};
+ghost use Rattle.std.specs.List.{flat_map};
 ghost use Rattle.levels.specs.WaitingOrder.{capacities_cmp, waiting_cmp, waiting_total};
 ghost use Rattle.levels.specs.inside.Heads.{head_of};
+ghost use Rattle.levels.specs.inside.Hashes.{capacity_input, same_input};
 
+use crate::head::code;
 use sd_base::NoMemory;
 use std::alloc::Global;
 use std::cmp::Ordering;
+use std::hash::{Hash, Hasher};
 use storage::Distribution;
 
-/// A distribution that was found, with the hint with which it was led to. Those that wait are visited by rising storage,
-/// and lexicographically where that is equal; the head of the capacities tells most of these apart.
+/// A distribution that was found, with the hint with which it was led to. Those that wait are found again by their hash, and
+/// are visited by rising storage, and lexicographically where that is equal; the head of the capacities tells most of these
+/// apart.
 #[derive(Debug, Drop)]
 pub struct Found<H> {
     pub capacities: Distribution,
@@ -95,6 +100,18 @@ impl<H> Ord for Found<H> {
 
     fn cmp(&self, other: &Found<H>) -> Ordering {
         compare(self, other)
+    }
+}
+
+impl<H> Hash for Found<H> {
+    ghost hash_input = { λ f. flat_map capacity_input f.capacities.capacities };
+
+    ghost respects_eq = { same_input (λ w. w.total) (λ w. w.capacities.capacities) };
+
+    fn hash<S: Hasher>(&self, state: &mut S) {
+        for capacity in self.capacities.capacities.as_slice() {
+            state.write_u64(code(*capacity));
+        }
     }
 }
 

@@ -32,7 +32,7 @@ fn second(rest: &[Option<u64>]) -> u64
 }
 
 /// The code of a capacity: one more than it, the greatest for all large ones, and 0 for none.
-fn code(capacity: Option<u64>) -> u64
+pub(crate) fn code(capacity: Option<u64>) -> u64
     ensures { result ≡ code_of capacity }
 {
     match capacity {

@@ -1,20 +1,19 @@
 ghost use Rattle.std.specs.Prelude.{◌≡◌, ◌+◌, ◌≤◌, ◌<◌, ◌++◌, ℕ, [], ◌∷◌, All, IfErr, IfOk, List, MatchOption, OnOk, Option, length, slice_index_or};
-ghost use Rattle.std.specs.BTreeSet.{insert_key};
 ghost use Rattle.sd_base.specs.Net.{Channel};
 ghost use Rattle.storage.specs.Distributions.{storage_of};
 ghost use Rattle.storage.specs.StorageOrder.{stepped};
 ghost use Rattle.levels.specs.Visits.{AreVisits, Visit, led_by};
-ghost use Rattle.levels.specs.Frontiers.{AreLedOn, IsFrontier, IsOver, IsLevelTaken, IsSame, IsSpent, Rises, StopsAt, distributions_of, found_order};
-ghost use Rattle.levels.specs.inside.Waiting.{EndsAdding, EndsWaiting, IsAdded, IsNextTotal, IsTakenOff};
+ghost use Rattle.levels.specs.Frontiers.{AreLedOn, IsFrontier, IsOver, IsLevelTaken, IsSame, IsSpent, Rises, distributions_of};
+ghost use Rattle.levels.specs.inside.Waiting.{EndsAdding, EndsWaiting, IsAdded};
 
 use crate::channel::ChannelStep;
 use crate::error::LevelsError;
 use crate::found::{Found, Level};
 use crate::head::head;
 use crate::raising::{stepped_up, with_room};
+use crate::sets::Waiting;
 use sd_base::{NoMemory, Rows};
 use std::alloc::Global;
-use std::collections::BTreeSet;
 use storage::Distribution;
 
 /// How far a search goes: the storage within which distributions are visited, and how many may be found.
@@ -30,7 +29,7 @@ pub struct Bounds {
 pub struct Levels<H> {
     pub(crate) channels: Rows<ChannelStep>,
     pub(crate) bounds: Bounds,
-    pub(crate) waiting: BTreeSet<Found<H>>,
+    pub(crate) waiting: Waiting<H>,
     pub(crate) found: u64,
 }
 
@@ -46,10 +45,10 @@ impl<H: Copy + Drop> Levels<H> {
     ) -> Result<Levels<H>, NoMemory>
         requires { 1 ≤ bounds.distributions }
         ensures frontier { IfOk result (λ l. (cs : List Channel) → IsOver cs channels → total ≡ storage_of cs start.capacities → IsFrontier cs start.capacities 0 [] [] l) }
-        ensures hints { IfOk result (λ l. All (λ f. f.hint ≡ hint) l.waiting.keys) }
+        ensures hints { IfOk result (λ l. All (λ f. f.hint ≡ hint) l.waiting) }
         ensures bounds { IfOk result (λ l. l.bounds ≡ bounds) }
     {
-        let mut waiting = BTreeSet::new(alloc);
+        let mut waiting = Waiting::new(alloc);
         if total > bounds.total {
             return Ok(Levels {
                 channels,
@@ -59,12 +58,13 @@ impl<H: Copy + Drop> Levels<H> {
             });
         }
         let head = head(start.capacities.as_slice());
-        waiting.insert(Found {
+        let found = Found {
             capacities: start,
             hint,
             total,
             head,
-        })?;
+        };
+        waiting.put(alloc, found)?;
         Ok(Levels {
             channels,
             bounds,
@@ -74,23 +74,20 @@ impl<H: Copy + Drop> Levels<H> {
     }
 
     /// Takes off all that wait with the least storage, if any waits: they are the next visits, and each is to lead on before
-    /// the next level is taken. Cost: for each of them a logarithm of those that wait.
+    /// the next level is taken. Cost: that of a sort of them.
     pub fn next(&mut self, alloc: Global) -> Result<Option<Level<H>>, NoMemory>
-        ensures level { IfOk result (λ found. MatchOption found (self.old.waiting.keys ≡ []) (λ level. IsLevelTaken level.total level.visits.items self.old.waiting.keys self.new.waiting.keys)) }
+        ensures level { IfOk result (λ found. MatchOption found (self.old.waiting ≡ []) (λ level. IsLevelTaken level.total level.visits.items self.old.waiting self.new.waiting)) }
         ensures frontier { IfOk result (λ found. (cs : List Channel) (start : List (Option ℕ)) (floor : ℕ) (visits : List Visit) → IsFrontier cs start floor visits [] self.old →
             MatchOption found (AreVisits cs start self.old.bounds.total visits) (λ level. IsFrontier cs start (level.total + 1) visits (distributions_of level.visits.items) self.new)) }
         ensures same { IsSame self.old self.new }
     {
-        let Some(total) = self.next_total() else {
-            return Ok(None);
-        };
-        let visits = self.take_level(alloc, total)?;
-        Ok(Some(Level { total, visits }))
+        let found = self.waiting.next(alloc)?;
+        Ok(found)
     }
 
     /// Lets those wait with the hint that have a step more room than a visit on one of some channels, unless they do so
     /// already or aren't within the bounds. Cost: a copy of the capacities for the visit and for each that is new, and for
-    /// each channel a logarithm of those that wait.
+    /// each channel a hash of them and a logarithm of the levels that wait.
     pub fn lead_on(
         &mut self,
         alloc: Global,
@@ -103,7 +100,7 @@ impl<H: Copy + Drop> Levels<H> {
         requires within { total ≤ self.old.bounds.total }
         requires few { self.old.found ≤ self.old.bounds.distributions }
         ensures waiting { OnOk result ((cs : List Channel) → IsOver cs self.old.channels → total ≡ storage_of cs from.now.capacities → Rises cs (led_by from.now.capacities enlarge.now) →
-            AreLedOn cs self.old.bounds.total (led_by from.now.capacities enlarge.now) hint self.old.waiting.keys self.new.waiting.keys) }
+            AreLedOn cs self.old.bounds.total (led_by from.now.capacities enlarge.now) hint self.old.waiting self.new.waiting) }
         ensures frontier { OnOk result ((cs : List Channel) (start : List (Option ℕ)) (visits : List Visit) (taken : List (List (Option ℕ))) →
             IsFrontier cs start (total + 1) visits (from.now.capacities ∷ taken) self.old → total ≡ storage_of cs from.now.capacities → Rises cs (led_by from.now.capacities enlarge.now) →
             IsFrontier cs start (total + 1) (visits ++ led_by from.now.capacities enlarge.now ∷ []) taken self.new) }
@@ -134,11 +131,11 @@ impl<H: Copy + Drop> Levels<H> {
         requires few { self.old.found ≤ self.old.bounds.distributions }
         ensures back { IfOk result (λ d. d.capacities ≡ from.capacities) }
         ensures led { OnOk result ((cs : List Channel) → IsOver cs self.old.channels → total ≡ storage_of cs from.capacities → Rises cs (led_by from.capacities (channel ∷ [])) →
-            AreLedOn cs self.old.bounds.total (led_by from.capacities (channel ∷ [])) hint self.old.waiting.keys self.new.waiting.keys) }
-        ensures count { OnOk result (self.new.found + length self.old.waiting.keys ≡ self.old.found + length self.new.waiting.keys) }
+            AreLedOn cs self.old.bounds.total (led_by from.capacities (channel ∷ [])) hint self.old.waiting self.new.waiting) }
+        ensures count { OnOk result (self.new.found + length self.old.waiting ≡ self.old.found + length self.new.waiting) }
         ensures few { OnOk result (self.new.found ≤ self.old.bounds.distributions) }
         ensures same { IsSame self.old self.new }
-        ensures ended { IfErr result (EndsWaiting self.old.channels self.old.bounds total (led_by from.capacities (channel ∷ [])) hint self.old.found self.old.waiting.keys self.new.waiting.keys) }
+        ensures ended { IfErr result (EndsWaiting self.old.channels self.old.bounds total (led_by from.capacities (channel ∷ [])) hint self.old.found self.old.waiting) }
     {
         let Some(room) = from.capacity_of(channel) else {
             return Ok(from);
@@ -175,77 +172,21 @@ impl<H: Copy + Drop> Levels<H> {
     /// Lets a copy of one that was found wait, unless its distribution does so already.
     fn admit(&mut self, alloc: Global, child: &Found<H>) -> Result<(), LevelsError>
         requires { self.old.found ≤ self.old.bounds.distributions }
-        ensures added { OnOk result (IsAdded child.now self.old.waiting.keys self.new.waiting.keys) }
-        ensures count { OnOk result (self.new.found + length self.old.waiting.keys ≡ self.old.found + length self.new.waiting.keys) }
+        ensures added { OnOk result (IsAdded child.now self.old.waiting self.new.waiting) }
+        ensures count { OnOk result (self.new.found + length self.old.waiting ≡ self.old.found + length self.new.waiting) }
         ensures few { OnOk result (self.new.found ≤ self.old.bounds.distributions) }
         ensures same { IsSame self.old self.new }
-        ensures ended { IfErr result (EndsAdding child.now self.old.bounds self.old.found self.old.waiting.keys self.new.waiting.keys) }
+        ensures ended { IfErr result (EndsAdding child.now self.old.bounds self.old.found self.old.waiting) }
     {
-        if self.waiting.contains(child) {
-            return Ok(());
-        }
-        let found = child.copy(alloc)?;
-        self.wait(found)
-    }
-
-    /// Lets one that was found wait.
-    fn wait(&mut self, found: Found<H>) -> Result<(), LevelsError>
-        requires { self.old.found ≤ self.old.bounds.distributions }
-        ensures waited { OnOk result (self.new.waiting.keys ≡ insert_key found_order self.old.waiting.keys found) }
-        ensures count { OnOk result (self.new.found + length self.old.waiting.keys ≡ self.old.found + length self.new.waiting.keys) }
-        ensures few { OnOk result (self.new.found ≤ self.old.bounds.distributions) }
-        ensures same { IsSame self.old self.new }
-        ensures ended { IfErr result (EndsAdding found self.old.bounds self.old.found self.old.waiting.keys self.new.waiting.keys) }
-    {
-        if !self.waiting.insert(found)? {
+        if self.waiting.has(child) {
             return Ok(());
         }
         if self.found == self.bounds.distributions {
             return Err(LevelsError::Spent);
         }
+        let found = child.copy(alloc)?;
+        self.waiting.put(alloc, found)?;
         self.found += 1;
         Ok(())
-    }
-
-    /// The least storage of those that wait.
-    fn next_total(&self) -> Option<u64>
-        ensures { MatchOption result (self.now.waiting.keys ≡ []) (λ t. IsNextTotal t self.now.waiting.keys) }
-    {
-        if self.waiting.len() == 0 {
-            return None;
-        }
-        match self.waiting.first() {
-            Some(first) => Some(first.total),
-            None => None,
-        }
-    }
-
-    /// Takes off the first ones of those that wait, as long as they need so much storage.
-    fn take_level(&mut self, alloc: Global, total: u64) -> Result<Vec<Found<H>>, NoMemory>
-        ensures taken { IfOk result (λ level. IsTakenOff total level.items self.old.waiting.keys self.new.waiting.keys) }
-        ensures found { self.new.found ≡ self.old.found }
-        ensures same { IsSame self.old self.new }
-    {
-        let mut level = Vec::new(alloc);
-        while let Some(first) = self.pop_with(total) {
-            level.push(first)?;
-        }
-        Ok(level)
-    }
-
-    /// Takes off the first of those that wait, if it needs so much storage.
-    fn pop_with(&mut self, total: u64) -> Option<Found<H>>
-        ensures first { MatchOption result ((self.new.waiting.keys ≡ self.old.waiting.keys) × StopsAt total self.new.waiting.keys) (λ w. (self.old.waiting.keys ≡ w ∷ self.new.waiting.keys) × (w.total ≡ total)) }
-        ensures found { self.new.found ≡ self.old.found }
-        ensures same { IsSame self.old self.new }
-    {
-        let Some(first) = self.next_total() else {
-            return None;
-        };
-        if first == total {
-            self.waiting.pop_first()
-        } else {
-            None
-        }
     }
 }

@@ -9,8 +9,11 @@ mod head;
 pub mod laws;
 mod levels;
 mod raising;
+mod sets;
 
 pub use channel::ChannelStep;
 pub use error::LevelsError;
 pub use found::{Found, Level};
 pub use levels::{Bounds, Levels};
+#[doc(hidden)]
+pub use sets::Waiting;

@@ -1,5 +1,5 @@
-pub mod Streaks
+pub mod TokensFeedSeries
 pub mod WholeRuns
-pub mod Naming
-pub mod Looking
-pub mod Reaching
+pub mod LacksAreNamed
+pub mod LooksRunOut
+pub mod CountsAreReached

@@ -6,9 +6,9 @@ use Rattle.std.proofs.lemmas.List.{length-map, length-replicate, get_or-map, get
 use Rattle.sd_base.specs.Net.{Channel, Net, nowhere, channel_at, total}
 use Rattle.sd_base.specs.Untimed.{IsRoundOrder, IsLive, Closed, Blocks, IsEnd}
 use Rattle.sd_base.specs.Lawful.{Lawful}
-use Rattle.sd_base.proofs.Sums.{total-zero}
-use Rattle.sd_base.proofs.Parts.{wired}
-use Rattle.sd_base.proofs.Blocking.{end-splits, live-unblocked}
+use Rattle.sd_base.proofs.SumsRepeatByTurns.{total-zero}
+use Rattle.sd_base.proofs.LawfulIsRegular.{wired}
+use Rattle.sd_base.proofs.ClosedCountsBoundRuns.{end-splits, live-unblocked}
 use Rattle.sd_base.specs.Untimed.{NamesLacks, IsBlockedBy}
 use Rattle.liveness.specs.inside.UntimedRuns.{IsNoted, IsRun}
 

@@ -1,3 +1,3 @@
-pub mod Streaks
+pub mod Series
 pub mod UntimedRuns
 pub mod Looks

@@ -6,7 +6,7 @@ mod flags;
 mod note;
 mod round;
 mod run;
-mod streak;
+mod series;
 
 pub use ending::{Ending, finish_round, moved_sum, no_counts, whole_counts};
 pub use round::{Round, fire_round, one_round};

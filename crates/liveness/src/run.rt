@@ -1,11 +1,11 @@
 ghost use Rattle.std.specs.Prelude.{◌≡◌, ◌≢◌, ℕ, ◌<◌, IfOk, OnOk, MatchBool, length, slice_index};
 ghost use Rattle.sd_base.specs.Untimed.{Closed};
-ghost use Rattle.sd_base.proofs.Ends.{left_of};
+ghost use Rattle.sd_base.proofs.FiringOrdersEnd.{left_of};
 ghost use Rattle.liveness.specs.inside.UntimedRuns.{IsNoted, IsStopped};
 
 use crate::flags::Flags;
 use crate::note::Note;
-use crate::streak::fire_streak;
+use crate::series::fire_series;
 use firing::{Firing, Wired, first_lack, know_laws, put_tokens, take_tokens};
 use sd_base::NoMemory;
 use std::alloc::Global;
@@ -50,7 +50,7 @@ fn fire_while_able<F: Firing, N: Note>(
         (counts.new ≡ counts.old)) }
 {
     if wired.net.phases(actor) == 1 {
-        return fire_streak(wired, actor, counts, tokens, note);
+        return fire_series(wired, actor, counts, tokens, note);
     }
     let mut fired = false;
     'firings: while fire_if_able(wired, actor, counts, tokens, note)? {

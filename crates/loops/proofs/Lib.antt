@@ -1,7 +1,7 @@
-pub mod Ranks
-pub mod Recurring
-pub mod Settling
-pub mod StartRows
+pub mod RanksRise
+pub mod ShapesRecur
+pub mod SettledShapesMatch
+pub mod RowsTellStarts
 pub mod RowsSettle
 pub mod RowsAgain
-pub mod Between
+pub mod StartsMakeTables

@@ -7,13 +7,13 @@ use Rattle.sd_base.specs.Net.{Net}
 use Rattle.sd_base.specs.Schedules.{HasInputs, count_of}
 use Rattle.sd_base.specs.SelfTimed.{earliest, shape_at}
 use Rattle.sd_base.specs.Lawful.{Lawful}
-use Rattle.sd_base.proofs.Parts.{regular, wired, balanced}
-use Rattle.sd_base.proofs.Counts.{past_none}
-use Rattle.sd_base.proofs.Rounds.{whole-rounds}
+use Rattle.sd_base.proofs.LawfulIsRegular.{regular, wired, balanced}
+use Rattle.sd_base.proofs.EndsDecideCounts.{past_none}
+use Rattle.sd_base.proofs.RoundsKeepTokens.{whole-rounds}
 use Rattle.loops.specs.StartRows.{AreStarts}
 use Rattle.loops.specs.Settling.{IsRowSettled, Recurs}
-use Rattle.loops.proofs.Settling.{shapes-same}
-use Rattle.loops.proofs.StartRows.{row-count, count-by, rows-settled}
+use Rattle.loops.proofs.SettledShapesMatch.{shapes-same}
+use Rattle.loops.proofs.RowsTellStarts.{row-count, count-by, rows-settled}
 
 module _ (net : Net) (laws : Lawful net) (fed : HasInputs net) (r t rounds : ℕ) (later : r < t) (starts : List (List ℕ)) (have : AreStarts net t starts)
     (rows : (a : ℕ) → a < length net.times → Recurs net a (slice_index_or starts a []) r (t - r) (rounds * slice_index net.round a)) where

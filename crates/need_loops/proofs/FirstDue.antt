@@ -2,7 +2,7 @@
 use Rattle.std.proofs.Common.{◌≡◌, ℕ, ◌≤◌, List, [], length, replicate, arith}
 use Rattle.std.proofs.lemmas.List.{length-replicate}
 use Rattle.sd_base.specs.Net.{Net, channel_at}
-use Rattle.sd_base.proofs.Counts.{empty-rows}
+use Rattle.sd_base.proofs.EndsDecideCounts.{empty-rows}
 use Rattle.need_loops.specs.declared.growth.Growth.{Growth}
 use Rattle.need_loops.specs.inside.Needing.{AreDue}
 use Rattle.need_loops.specs.inside.Growing.{IsGrowth}

@@ -1,7 +1,7 @@
-pub mod Fed
-pub mod Due
+pub mod FeedsGoOn
+pub mod DueRowsAreSelfTimed
 pub mod FirstDue
-pub mod Totals
+pub mod StartsBoundEvents
 pub mod RowLoops
-pub mod Known
-pub mod Apart
+pub mod RowsHoldAllStarts
+pub mod FiringsStartApart

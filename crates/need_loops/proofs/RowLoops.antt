@@ -9,17 +9,17 @@ use Rattle.sd_base.specs.SelfTimed.{earliest, IsEvent, shape_at}
 use Rattle.sd_base.specs.Lawful.{Lawful}
 use Rattle.sd_base.specs.Rates.{IsLoop}
 use Rattle.sd_base.specs.Connection.{IsConnected}
-use Rattle.sd_base.proofs.Parts.{regular, balanced}
-use Rattle.sd_base.proofs.Admissibles.{is_actor, one_time}
-use Rattle.sd_base.proofs.Counts.{early_at}
-use Rattle.sd_base.proofs.Alike.{count-rises}
-use Rattle.sd_base.proofs.Returns.{rounds, repeats-rounds, at-least_one}
+use Rattle.sd_base.proofs.LawfulIsRegular.{regular, balanced}
+use Rattle.sd_base.proofs.FiringsKeepOrder.{is_actor, one_time}
+use Rattle.sd_base.proofs.EndsDecideCounts.{early_at}
+use Rattle.sd_base.proofs.EqualShapesRepeat.{count-rises}
+use Rattle.sd_base.proofs.LoopsSpanRounds.{rounds, repeats-rounds, at-least_one}
 use Rattle.loops.specs.StartRows.{AreStarts, Ascend, AreBy}
 use Rattle.loops.specs.Settling.{IsRowSettled, Recurs}
 use Rattle.need_loops.specs.inside.Showing.{AreBothAfter, Differ, IsFirstDoubled, IsFirstEnd, IsFirstEvent, SettlesFrom}
-use Rattle.loops.proofs.Recurring.{apart-event, apart-same, apart-least}
-use Rattle.loops.proofs.Settling.{started-by, start-kept, settled-same}
-use Rattle.loops.proofs.StartRows.{row-count, row-start, count-by, rows-settle, same-over}
+use Rattle.loops.proofs.ShapesRecur.{apart-event, apart-same, apart-least}
+use Rattle.loops.proofs.SettledShapesMatch.{started-by, start-kept, settled-same}
+use Rattle.loops.proofs.RowsTellStarts.{row-count, row-start, count-by, rows-settle, same-over}
 use Rattle.loops.proofs.RowsSettle.{settled-later}
 use Rattle.loops.proofs.RowsAgain.{rows-again}
 

@@ -9,7 +9,7 @@ use Rattle.sd_base.specs.Net.{Channel, Net, nowhere, channel_at}
 use Rattle.sd_base.specs.Lawful.{is_file_channel, is_token_role, is_own_role, Lawful, is_space_role}
 use Rattle.ordered.specs.Orders.{AreOrders}
 use Rattle.ordered.specs.OrderedNets.{is_named, phases_in, rephased, with_role, order_channels, owns_from, ordered}
-use Rattle.ordered.proofs.Members.{Among, at-place, Kept, kept-from, among-either}
+use Rattle.ordered.proofs.ChannelsAreKeptOrNew.{Among, at-place, Kept, kept-from, among-either}
 use Rattle.ordered.proofs.RolesApart.{new-role, order-role, kept-role}
 
 -- a channel that isn't of the file has none of the file after it

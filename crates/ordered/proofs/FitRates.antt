@@ -4,12 +4,12 @@ use Rattle.std.specs.Prelude.{slice_index, slice_index_or}
 use Rattle.sd_base.specs.declared.limits.TheConstants.{RATE, ROUND}
 use Rattle.sd_base.specs.Net.{Net}
 use Rattle.sd_base.specs.Lawful.{Lawful}
-use Rattle.sd_base.proofs.Lists.{entry-le-sum}
+use Rattle.sd_base.proofs.ElementsKeepPlaces.{entry-le-sum}
 use Rattle.firing.specs.Csdf.{AreRates}
 use Rattle.ordered.specs.Orders.{entry_at, AreOrders}
 use Rattle.ordered.specs.OrderedNets.{order_channel, ordered}
 use Rattle.ordered.specs.inside.Steps.{FitRates, pairs_from}
-use Rattle.ordered.proofs.Sides.{PairAt, pair-at}
+use Rattle.ordered.proofs.PairsAreNeighbours.{PairAt, pair-at}
 use Rattle.ordered.proofs.GoodChannels.{Good, step-good, entry-actor, entry-named, named-phases, phases-here}
 
 pub round-few : (net : Net) → Lawful net → (a : ℕ) → slice_index net.round a ≤ ROUND

@@ -17,9 +17,9 @@ use Rattle.ordered.specs.declared.orders.OrderError.TheVariants.{Unknown, Elsewh
 use Rattle.ordered.specs.Orders.{entry_at, fired, one_if, AreOrders}
 use Rattle.ordered.specs.OrderedNets.{is_named, order_channels, ordered, own_or_new, owns_from, phases_in, rephased, with_role}
 use Rattle.ordered.specs.NamedOrders.{actor_named, count_fault, entries_fault, entry_fault, first_fault, lists_of, order_fault, order_of, pairs_fault, standing}
-use Rattle.ordered.proofs.Counting.{many-zero, many-suc}
-use Rattle.ordered.proofs.Entries.{entry-here}
-use Rattle.ordered.proofs.Members.{Kept, kept-from, at-place}
+use Rattle.ordered.proofs.CountsRepeatByTurns.{many-zero, many-suc}
+use Rattle.ordered.proofs.FiringsHaveEntries.{entry-here}
+use Rattle.ordered.proofs.ChannelsAreKeptOrNew.{Kept, kept-from, at-place}
 use Rattle.ordered.proofs.RolesApart.{Apart, kept-apart, own-role}
 
 none-first : (f g : Option OrderError) → option_or f g ≡ None → f ≡ None

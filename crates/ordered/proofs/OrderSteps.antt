@@ -6,8 +6,8 @@ use Rattle.sd_base.specs.Net.{total}
 use Rattle.sd_base.specs.Schedules.{Needs}
 use Rattle.ordered.specs.Orders.{entry_at, one_if, how_many, fired}
 use Rattle.ordered.specs.OrderedNets.{before, leads, led, order_channel}
-use Rattle.ordered.proofs.Counting.{many-zero, many-suc, many-hit, many-before}
-use Rattle.ordered.proofs.Picks.{entry-turns, is_of, fired-here, rates-sum}
+use Rattle.ordered.proofs.CountsRepeatByTurns.{many-zero, many-suc, many-hit, many-before}
+use Rattle.ordered.proofs.RatesCountEntries.{entry-turns, is_of, fired-here, rates-sum}
 
 module _ (order : List ℕ) (some : 1 ≤ length order) (x y : ℕ) where
   pub after-turns : (k q : ℕ) → (entry_at order (suc (k + q * length order)) == y) ≡ (entry_at order (suc k) == y)

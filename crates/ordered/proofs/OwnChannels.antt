@@ -13,11 +13,11 @@ use Rattle.sd_base.specs.FileNet.{own_channel}
 use Rattle.sd_base.specs.Lawful.{is_own, is_own_role, is_token_role, Lawful, is_space_role}
 use Rattle.sd_base.specs.Schedules.{phases_at}
 use Rattle.sd_base.proofs.FileNets.{own-is}
-use Rattle.sd_base.proofs.Lists.{any-place}
+use Rattle.sd_base.proofs.ElementsKeepPlaces.{any-place}
 use Rattle.ordered.specs.Orders.{AreOrders}
 use Rattle.ordered.specs.OrderedNets.{CanBeOrdered, is_named, phases_in, unrolled, rephased, with_role, own_or_new, owns_from, order_channels, ordered}
-use Rattle.ordered.proofs.Members.{Among, among-head, among-left, among-right, Kept, kept-from, kept-in, owns-here}
-use Rattle.ordered.proofs.Entries.{some-phases, whole-phases}
+use Rattle.ordered.proofs.ChannelsAreKeptOrNew.{Among, among-head, among-left, among-right, Kept, kept-from, kept-in, owns-here}
+use Rattle.ordered.proofs.FiringsHaveEntries.{some-phases, whole-phases}
 use Rattle.ordered.proofs.GoodChannels.{phases-here}
 
 -- all entries of a list of ones

@@ -6,8 +6,8 @@ use Rattle.sd_base.specs.Rates.{Rate}
 use Rattle.ordered.specs.Orders.{AreOrders}
 use Rattle.ordered.specs.OrderedNets.{CanBeOrdered, ordered}
 use Rattle.ordered.specs.OrderedRates.{EarliestInOrder, HasRateInOrder}
-use Rattle.ordered.proofs.Entries.{times-many}
-use Rattle.ordered.proofs.Keeping.{admissible-both, admissible-ordered}
+use Rattle.ordered.proofs.FiringsHaveEntries.{times-many}
+use Rattle.ordered.proofs.AdmissibleKeepsOrders.{admissible-both, admissible-ordered}
 
 pub rate-in-order : (net : Net) (orders : List (List ℕ)) (p q : ℕ) → Lawful net → CanBeOrdered net → AreOrders net orders → Rate (ordered net orders) p q → HasRateInOrder net orders p q
 rate-in-order net orders p q laws can are rate = record {

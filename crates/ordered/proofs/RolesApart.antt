@@ -10,8 +10,8 @@ use Rattle.sd_base.specs.FileNet.{own_channel}
 use Rattle.sd_base.specs.Lawful.{is_token_role, is_own_role, Lawful, is_space_role}
 use Rattle.ordered.specs.Orders.{entry_at, AreOrders}
 use Rattle.ordered.specs.OrderedNets.{is_named, phases_in, rephased, with_role, leads, led, order_channel, order_channels_from, order_channels, own_or_new, owns_from, ordered}
-use Rattle.ordered.proofs.Counting.{many-hit, many-le}
-use Rattle.ordered.proofs.Members.{Among, at-place, among-none, among-either, Kept, kept-from, OrderAt, order-from, OrderIn, orders-from, OwnIn, owns-of}
+use Rattle.ordered.proofs.CountsRepeatByTurns.{many-hit, many-le}
+use Rattle.ordered.proofs.ChannelsAreKeptOrNew.{Among, at-place, among-none, among-either, Kept, kept-from, OrderAt, order-from, OrderIn, orders-from, OwnIn, owns-of}
 
 -- no two channels of a list have the same role
 abbrev pub Apart : List Channel → Type 0
@@ -41,8 +41,8 @@ apart-head c cs apart d among same =
 apart-append : (xs ys : List Channel) → Apart xs → Apart ys → Distinct xs ys → Apart (xs ++ ys)
 apart-append [] ys one other distinct = other
 apart-append (x ∷ xs) ys one other distinct = apart-cons x (xs ++ ys)
-    (λ d among same. ⊎_elim (λ (a : Among xs d). apart-head x xs one d a same) (λ (a : Among ys d). distinct x d (Rattle.ordered.proofs.Members.among-head x xs) a same) (among-either xs ys d among))
-    (apart-append xs ys (apart-tail x xs one) other (λ c d a b same. distinct c d (Rattle.ordered.proofs.Members.among-tail x xs c a) b same))
+    (λ d among same. ⊎_elim (λ (a : Among xs d). apart-head x xs one d a same) (λ (a : Among ys d). distinct x d (Rattle.ordered.proofs.ChannelsAreKeptOrNew.among-head x xs) a same) (among-either xs ys d among))
+    (apart-append xs ys (apart-tail x xs one) other (λ c d a b same. distinct c d (Rattle.ordered.proofs.ChannelsAreKeptOrNew.among-tail x xs c a) b same))
 
 distinct-append : (xs ys zs : List Channel) → Distinct xs ys → Distinct xs zs → Distinct xs (ys ++ zs)
 distinct-append xs ys zs one other c d a b same = ⊎_elim (λ (l : Among ys d). one c d a l same) (λ (r : Among zs d). other c d a r same) (among-either ys zs d b)
@@ -103,7 +103,7 @@ pub starts-at : (order : List ℕ) (c : Channel) → Among (order_channels_from 
 starts-at order c among =
     let o : OrderAt order 0 (length order) c = order-from order 0 (length order) c among in
     let small : o.place < length order = omega (arith, o.below) in
-    (o.place, small, entry_at order (suc o.place), ap (λ (x : Channel). x.role) o.is ∙ ap (λ (a : ℕ). Order a (entry_at order (suc o.place))) (Rattle.ordered.proofs.Entries.entry-here order o.place small))
+    (o.place, small, entry_at order (suc o.place), ap (λ (x : Channel). x.role) o.is ∙ ap (λ (a : ℕ). Order a (entry_at order (suc o.place))) (Rattle.ordered.proofs.FiringsHaveEntries.entry-here order o.place small))
 
 orders-apart : (orders : List (List ℕ)) → InOne orders → Apart (order_channels orders)
 orders-apart [] one = apart-none
@@ -147,7 +147,7 @@ module _ (net : Net) (laws : Lawful net) (orders : List (List ℕ)) (are : AreOr
       one (x ∷ xs) b apart = apart
 
       role : (xs : List Channel) (b : Bool) (c : Channel) → ((c : Channel) → Among xs c → c.role ≡ Own a) → Among (own_or_new xs b new) c → c.role ≡ Own a
-      role [] true c each among = ⊎_elim (λ (e : new ≡ c). ap (λ (x : Channel). x.role) (sym e)) (λ (t : Among [] c). absurd (among-none c t)) (Rattle.ordered.proofs.Members.among-cases new [] c among)
+      role [] true c each among = ⊎_elim (λ (e : new ≡ c). ap (λ (x : Channel). x.role) (sym e)) (λ (t : Among [] c). absurd (among-none c t)) (Rattle.ordered.proofs.ChannelsAreKeptOrNew.among-cases new [] c among)
       role [] false c each among = absurd (among-none c among)
       role (x ∷ xs) b c each among = each c among
 

@@ -1,2 +1,2 @@
-pub mod Offers
-pub mod Putting
+pub mod OffersStayOrdered
+pub mod PointsTakePlaces

@@ -58,6 +58,19 @@ bounded-no-more (None ∷ corner) (j ∷ js) (k ∷ ks) zero long less = tt
 bounded-no-more (Some n ∷ corner) (j ∷ js) (k ∷ ks) zero long less = less
 bounded-no-more (d ∷ corner) (j ∷ js) (k ∷ ks) (suc c) long less = bounded-no-more corner js ks c (omega arith) less
 
+-- so it is the lesser one, where the other has one
+pub bounded-room : (corner : List (Option ℕ)) (js ks : List ℕ) (c k : ℕ) → length js ≡ length ks → slice_index js c ≤ slice_index ks c → capacity_at (bounded_by corner ks) c ≡ Some k → (n : ℕ) × (capacity_at (bounded_by corner js) c ≡ Some n) × (n ≤ k)
+bounded-room [] js ks c k long less has = cc
+bounded-room (d ∷ corner) [] [] c k long less has = cc
+bounded-room (d ∷ corner) [] (x ∷ ks) c k long less has = absurd (omega arith)
+bounded-room (d ∷ corner) (j ∷ js) [] c k long less has = absurd (omega arith)
+bounded-room (None ∷ corner) (j ∷ js) (x ∷ ks) zero k long less has = cc
+bounded-room (Some m ∷ corner) (j ∷ js) (x ∷ ks) zero k long less has =
+    let same : x ≡ k = cc in
+    let low : j ≤ x = less in
+    (j, refl, omega (arith, same, low))
+bounded-room (d ∷ corner) (j ∷ js) (x ∷ ks) (suc c) k long less has = bounded-room corner js ks c k (omega arith) less has
+
 -- ---- the order by channel
 
 pub bounded-under : (corner : List (Option ℕ)) (ks js : List ℕ) → length ks ≡ length js → ((c : ℕ) → slice_index ks c ≤ slice_index js c) → AtMost (bounded_by corner ks) (bounded_by corner js)

@@ -12,7 +12,7 @@ use Rattle.covers.specs.declared.lattice.Lattice.{Lattice}
 use Rattle.covers.specs.declared.search.Search.{Search}
 use Rattle.covers.specs.Bounds.{IsAtMost, IsCovered}
 use Rattle.covers.specs.Searches.{IsSearched}
-use Rattle.covers.proofs.Forces.{covered-added}
+use Rattle.covers.proofs.BoundsStayInForce.{covered-added}
 use Rattle.walks.specs.declared.telling.Telling.{Telling}
 use Rattle.pareto_search.specs.declared.known.Looped.{Looped}
 use Rattle.pareto_search.specs.declared.searching.Searching.{Searching}
@@ -21,7 +21,7 @@ use Rattle.pareto_search.specs.inside.Grounds.{IsGround}
 use Rattle.pareto_search.specs.inside.Knowledge.{IsLooped}
 use Rattle.pareto_search.specs.inside.Turns.{IsDue, IsStanding, IsValid}
 use Rattle.pareto_search.specs.inside.Vectors.{bounded_by}
-use Rattle.pareto_search.proofs.Absorbed.{bounds-stay, valid-more}
+use Rattle.pareto_search.proofs.TellingsAreAbsorbed.{bounds-stay, valid-more}
 use Rattle.pareto_search.proofs.WithinLimit.{among-lawful}
 
 -- the loop that is kept for a place is that of the telling which is read there

@@ -5,7 +5,7 @@ use Rattle.std.specs.Prelude.{All, Contains, slice_get, slice_index}
 use Rattle.std.proofs.lemmas.Bool.{cases_lt}
 use Rattle.std.proofs.lemmas.List.{take_all}
 use Rattle.std.proofs.lemmas.List.Elements.{All-contains}
-use Rattle.sd_base.proofs.Containing.{get-contains}
+use Rattle.sd_base.proofs.ContainedHavePlaces.{get-contains}
 use Rattle.sd_base.specs.declared.limits.Limits.{Limits}
 use Rattle.sd_base.specs.Net.{Net}
 use Rattle.covers.specs.declared.bound.Bound.{Bound}
@@ -15,8 +15,8 @@ use Rattle.covers.specs.declared.search.Search.{Search}
 use Rattle.covers.specs.Bounds.{IsAtMost, IsCovered}
 use Rattle.covers.specs.Lattices.{IsAmong, IsOnLattice, storage_of}
 use Rattle.covers.specs.Searches.{IsNotAfter, IsSettled, IsUncovered}
-use Rattle.covers.proofs.Answering.{same-vector}
-use Rattle.covers.proofs.Storages.{storage-le}
+use Rattle.covers.proofs.FoundNodesDecide.{same-vector}
+use Rattle.covers.proofs.StorageRises.{storage-le}
 use Rattle.walks.specs.declared.telling.Telling.{Telling}
 use Rattle.walks.specs.Tellings.{IsUnder}
 use Rattle.pareto_search.specs.declared.searching.Due.{Due}
@@ -28,7 +28,7 @@ use Rattle.pareto_search.specs.inside.Turns.{HasBound, IsDue, IsSettling}
 use Rattle.pareto_search.proofs.RateOrder.{above-from, above-never, above-on, above-or, most-on}
 use Rattle.pareto_search.proofs.SlowCovered.{told-rate, told-slow}
 use Rattle.pareto_search.proofs.SlowerBounds.{HasSlower}
-use Rattle.pareto_search.proofs.ToldBounds.{told-bounds}
+use Rattle.pareto_search.proofs.ToldBounds.{covers-bounding}
 
 module _ (net : Net) (limits : Limits) (corner : List (Option ℕ)) (lattice : Lattice) (base : IsGround net limits corner lattice) (due : Due) (s : Searching) (is : IsSettling net limits corner lattice due s) where
   at-due : IsDue lattice s.known.tellings.items s.below due.total s.bounds.best (Some due)
@@ -64,7 +64,7 @@ module _ (net : Net) (limits : Limits) (corner : List (Option ℕ)) (lattice : L
     covered-slower t one covered =
         let has : HasSlower s.known.tellings.items due.rate covered.0 = slower.only covered.0 covered.1 in
         let mine : IsTold net limits corner lattice t = told-at t one in
-        let slow : IsAtMost t.rate has.0.rate = told-bounds net limits corner lattice base has.0 (told-at has.0 has.1) t.capacities mine.among ((has.3.covers t.capacities).0 covered.3) t.rate.num t.rate.den (told-rate net limits corner lattice base t mine) in
+        let slow : IsAtMost t.rate has.0.rate = (told-at has.0 has.1).bounds t.capacities mine.among ((has.3.covers t.capacities).0 covered.3) t.rate.num t.rate.den (told-rate net limits corner lattice base t mine) in
         above-from t.rate has.0.rate due.rate slow has.2
 
     -- so something is left
@@ -96,7 +96,7 @@ module _ (net : Net) (limits : Limits) (corner : List (Option ℕ)) (lattice : L
           ⊎_elim
           (λ (less : IsAbove due.rate t.rate).
           let has : HasBound n.bounds.items t = slower.each t here less in
-          absurd (uncovered.free (has.0, has.1, All-contains (λ (b : Bound). IsAtMost b.rate n.best) n.bounds.items has.0 slower.force has.1, (has.2.covers goal).1 covers)))
+          absurd (uncovered.free (has.0, has.1, All-contains (λ (b : Bound). IsAtMost b.rate n.best) n.bounds.items has.0 slower.force has.1, (has.2.covers goal).1 (covers-bounding t mine.bounding goal covers))))
           (λ (h : IsAtMost due.rate t.rate). h)
           (above-or due.rate t.rate)
 

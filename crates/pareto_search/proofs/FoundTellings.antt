@@ -6,7 +6,7 @@ use Rattle.std.proofs.lemmas.List.Elements.{All-contains, Contains-append_cases}
 use Rattle.sd_base.specs.declared.limits.Limits.{Limits}
 use Rattle.sd_base.specs.declared.numbers.Fraction.{Fraction}
 use Rattle.sd_base.specs.Net.{Net}
-use Rattle.sd_base.proofs.Containing.{contains-get, contains-here, contains-later, contains-none, contains-unmap}
+use Rattle.sd_base.proofs.ContainedHavePlaces.{contains-get, contains-here, contains-later, contains-none, contains-unmap}
 use Rattle.covers.specs.declared.lattice.Lattice.{Lattice}
 use Rattle.walks.specs.declared.telling.Telling.{Telling}
 use Rattle.explore.specs.declared.error.ExploreError.TheVariants.{DistributionsSpent}
@@ -17,7 +17,7 @@ use Rattle.pareto_search.specs.declared.known.Known.{Known}
 use Rattle.pareto_search.specs.inside.Knowledge.{IsKnown, IsTold, loops_in, ran, told_of}
 use Rattle.pareto_search.specs.inside.Learning.{AreNew, IsNew}
 use Rattle.pareto_search.specs.inside.Vectors.{bounded_by, vector_of}
-use Rattle.pareto_search.proofs.Sorting.{apart-append, found-sorted}
+use Rattle.pareto_search.proofs.DistinctListsSort.{apart-append, found-sorted}
 
 -- ---- how many loops were run
 

@@ -7,8 +7,8 @@ use Rattle.std.proofs.lemmas.Option.{none-some, same_Some, slice_get_within}
 use Rattle.sd_base.specs.declared.limits.Limits.{Limits}
 use Rattle.sd_base.specs.declared.numbers.Fraction.{Fraction}
 use Rattle.sd_base.specs.Net.{Net}
-use Rattle.sd_base.proofs.Containing.{get-contains}
-use Rattle.sd_base.proofs.Lists.{get-last, get-left, get-pushed}
+use Rattle.sd_base.proofs.ContainedHavePlaces.{get-contains}
+use Rattle.sd_base.proofs.ElementsKeepPlaces.{get-last, get-left, get-pushed}
 use Rattle.firing.specs.declared.table.LoopTable.{LoopTable}
 use Rattle.lasso.specs.LoopAnswers.{IsFound}
 use Rattle.storage.specs.BoundedNets.{bound}
@@ -26,8 +26,8 @@ use Rattle.walks.specs.declared.telling.Telling.{Telling}
 use Rattle.explore.specs.Reachable.{IsReachable}
 use Rattle.pareto_search.specs.declared.known.Known.{Known}
 use Rattle.pareto_search.specs.declared.known.Looped.{Looped}
-use Rattle.pareto_search.specs.inside.Knowledge.{IsAbove, IsKept, IsKnown, IsLooped, IsTold, counts_in, ran}
-use Rattle.pareto_search.specs.inside.Learning.{IsNew, counts_of, loops_of, telling_of}
+use Rattle.pareto_search.specs.inside.Knowledge.{BoundsOn, IsAbove, IsKept, IsKnown, IsLooped, IsTold, counts_in, ran}
+use Rattle.pareto_search.specs.inside.Learning.{AddsTelling, IsNew, counts_of, loops_of, telling_of}
 use Rattle.pareto_search.specs.inside.Vectors.{vector_of}
 
 -- ---- what an evaluation told
@@ -69,11 +69,13 @@ pushed-apart ts new apart other i j s t less one two = at (get-pushed ts new s i
     at (inr (last, same)) (inr (end, equal)) = absurd (omega (arith, last, end, less))
 
 module _ (net : Net) (limits : Limits) (corner : List (Option ℕ)) (lattice : Lattice) (best : Fraction) where
-  told-of : (tellings : List Telling) (ds : List (Option ℕ)) (e : Evaluation) (r : Rated) → IsNew net limits corner lattice tellings ds → IsEvaluated net ds limits.states e → IsRated best e r → IsTold net limits corner lattice (telling_of ds r)
-  told-of tellings ds e r new is kept = record {
+  told-of : (tellings : List Telling) (ds : List (Option ℕ)) (e : Evaluation) (r : Rated) → IsNew net limits corner lattice tellings ds → IsEvaluated net ds limits.states e → IsRated best e r → (bounding : List ℕ) → All (Contains r.enlarge) bounding → BoundsOn net corner lattice (vector_of ds) r.rate bounding → IsTold net limits corner lattice (telling_of ds r bounding)
+  told-of tellings ds e r new is kept bounding shown bounds = record {
     evaluation = e;
     evaluated = subst (λ (es : List (Option ℕ)). IsEvaluated net es limits.states e) (sym new.bounds) is;
     enlarge = kept.enlarge;
+    bounding = shown;
+    bounds = bounds;
     rate = kept.rate;
     blocked = ap counts_of kept.shown ∙ counts-same e.outcome;
     among = new.among;
@@ -84,22 +86,25 @@ module _ (net : Net) (limits : Limits) (corner : List (Option ℕ)) (lattice : L
   looped-longer : (ts more : List Telling) (l : Looped) → IsLooped net limits.states corner ts l → IsLooped net limits.states corner (ts ++ more) l
   looped-longer ts more l is = record { telling = is.telling; at = get-left ts more l.place is.telling is.at; found = is.found }
 
-  module _ (ds : List (Option ℕ)) (e : Evaluation) (r : Rated) (old new : Known) (is_new : IsNew net limits corner lattice old.tellings.items ds) (is : IsEvaluated net ds limits.states e) (kept : IsRated best e r) (tellings : new.tellings.items ≡ old.tellings.items ++ telling_of ds r ∷ [])
+  module _ (ds : List (Option ℕ)) (e : Evaluation) (r : Rated) (old new : Known) (is_new : IsNew net limits corner lattice old.tellings.items ds) (is : IsEvaluated net ds limits.states e) (kept : IsRated best e r) (adds : AddsTelling net corner lattice ds r old new)
       (loops : new.loops.items ≡ old.loops.items ++ loops_of (length old.tellings.items) r.table) (k : IsKnown net limits corner lattice best old) where
-    new-looped : (table : Option LoopTable) → r.table ≡ table → All (IsLooped net limits.states corner (old.tellings.items ++ telling_of ds r ∷ [])) (loops_of (length old.tellings.items) table)
-    new-looped None same = All-nil (IsLooped net limits.states corner (old.tellings.items ++ telling_of ds r ∷ []))
-    new-looped (Some table) same = All-push (IsLooped net limits.states corner (old.tellings.items ++ telling_of ds r ∷ [])) [] (record { place = length old.tellings.items; table = table }) (All-nil (IsLooped net limits.states corner (old.tellings.items ++ telling_of ds r ∷ []))) (record {
-      telling = telling_of ds r;
-      at = get-last old.tellings.items (telling_of ds r);
+    abbrev told_now : Telling
+    told_now = telling_of ds r adds.bounding
+
+    new-looped : (table : Option LoopTable) → r.table ≡ table → All (IsLooped net limits.states corner (old.tellings.items ++ told_now ∷ [])) (loops_of (length old.tellings.items) table)
+    new-looped None same = All-nil (IsLooped net limits.states corner (old.tellings.items ++ told_now ∷ []))
+    new-looped (Some table) same = All-push (IsLooped net limits.states corner (old.tellings.items ++ told_now ∷ [])) [] (record { place = length old.tellings.items; table = table }) (All-nil (IsLooped net limits.states corner (old.tellings.items ++ told_now ∷ []))) (record {
+      telling = told_now;
+      at = get-last old.tellings.items told_now;
       found = subst (λ (es : List (Option ℕ)). IsFound (bound net es) limits.states table) (sym is_new.bounds) (kept-found net ds limits.states best e.rate e.enlarge e.outcome r.table table is.outcome kept.table same);
     })
 
-    all-looped : All (IsLooped net limits.states corner (old.tellings.items ++ telling_of ds r ∷ [])) (old.loops.items ++ loops_of (length old.tellings.items) r.table)
-    all-looped = All-append (IsLooped net limits.states corner (old.tellings.items ++ telling_of ds r ∷ [])) old.loops.items (loops_of (length old.tellings.items) r.table)
-        (All-weaker (IsLooped net limits.states corner old.tellings.items) (IsLooped net limits.states corner (old.tellings.items ++ telling_of ds r ∷ [])) (looped-longer old.tellings.items (telling_of ds r ∷ [])) old.loops.items k.loops)
+    all-looped : All (IsLooped net limits.states corner (old.tellings.items ++ told_now ∷ [])) (old.loops.items ++ loops_of (length old.tellings.items) r.table)
+    all-looped = All-append (IsLooped net limits.states corner (old.tellings.items ++ told_now ∷ [])) old.loops.items (loops_of (length old.tellings.items) r.table)
+        (All-weaker (IsLooped net limits.states corner old.tellings.items) (IsLooped net limits.states corner (old.tellings.items ++ told_now ∷ [])) (looped-longer old.tellings.items (told_now ∷ [])) old.loops.items k.loops)
         (new-looped r.table refl)
 
-    kept-at : (i : ℕ) (t : Telling) → (slice_get old.tellings.items i ≡ Some t) ⊎ ((i ≡ length old.tellings.items) × (t ≡ telling_of ds r)) → IsAbove t.rate best → IsKept (old.loops.items ++ loops_of (length old.tellings.items) r.table) i
+    kept-at : (i : ℕ) (t : Telling) → (slice_get old.tellings.items i ≡ Some t) ⊎ ((i ≡ length old.tellings.items) × (t ≡ told_now)) → IsAbove t.rate best → IsKept (old.loops.items ++ loops_of (length old.tellings.items) r.table) i
     kept-at i t (inl at) above = let l = k.kept i t at above in (l.0, Contains-append_left old.loops.items (loops_of (length old.tellings.items) r.table) l.0 l.1, l.2)
     kept-at i t (inr (last, same)) above =
         let rate : t.rate ≡ e.rate = ap (λ (x : Telling). x.rate) same ∙ kept.rate in
@@ -109,9 +114,9 @@ module _ (net : Net) (limits : Limits) (corner : List (Option ℕ)) (lattice : L
 
     pub known-more : length old.tellings.items < limits.distributions → IsKnown net limits corner lattice best new
     known-more few = record {
-      told = subst (All (IsTold net limits corner lattice)) (sym tellings) (All-push (IsTold net limits corner lattice) old.tellings.items (telling_of ds r) k.told (told-of old.tellings.items ds e r is_new is kept));
-      apart = subst (λ (ts : List Telling). (i j : ℕ) (s t : Telling) → i < j → slice_get ts i ≡ Some s → slice_get ts j ≡ Some t → s.capacities ≢ t.capacities) (sym tellings) (pushed-apart old.tellings.items (telling_of ds r) k.apart is_new.untold);
-      loops = subst (λ (ts : List Telling). All (IsLooped net limits.states corner ts) new.loops.items) (sym tellings) (subst (All (IsLooped net limits.states corner (old.tellings.items ++ telling_of ds r ∷ []))) (sym loops) all-looped);
-      kept = λ i t at above. subst (λ (ls : List Looped). IsKept ls i) (sym loops) (kept-at i t (get-pushed old.tellings.items (telling_of ds r) t i (subst (λ (ts : List Telling). slice_get ts i ≡ Some t) tellings at)) above);
-      few = omega (arith, few, ap (λ (ts : List Telling). length ts) tellings, length_push old.tellings.items (telling_of ds r));
+      told = subst (All (IsTold net limits corner lattice)) (sym adds.added) (All-push (IsTold net limits corner lattice) old.tellings.items told_now k.told (told-of old.tellings.items ds e r is_new is kept adds.bounding adds.shown adds.bounds));
+      apart = subst (λ (ts : List Telling). (i j : ℕ) (s t : Telling) → i < j → slice_get ts i ≡ Some s → slice_get ts j ≡ Some t → s.capacities ≢ t.capacities) (sym adds.added) (pushed-apart old.tellings.items told_now k.apart is_new.untold);
+      loops = subst (λ (ts : List Telling). All (IsLooped net limits.states corner ts) new.loops.items) (sym adds.added) (subst (All (IsLooped net limits.states corner (old.tellings.items ++ told_now ∷ []))) (sym loops) all-looped);
+      kept = λ i t at above. subst (λ (ls : List Looped). IsKept ls i) (sym loops) (kept-at i t (get-pushed old.tellings.items told_now t i (subst (λ (ts : List Telling). slice_get ts i ≡ Some t) adds.added at)) above);
+      few = omega (arith, few, ap (λ (ts : List Telling). length ts) adds.added, length_push old.tellings.items told_now);
     }

@@ -18,7 +18,7 @@ use Rattle.pareto_search.specs.inside.Learning.{AreLearned, answered_of}
 use Rattle.pareto_search.specs.inside.Turns.{AreStops, IsStanding}
 use Rattle.pareto_search.specs.inside.Vectors.{bounded_by, vector_of}
 use Rattle.pareto_search.proofs.FoundTellings.{told-counts-more, told-spent}
-use Rattle.pareto_search.proofs.Learned.{stops-new}
+use Rattle.pareto_search.proofs.StopsAreNew.{stops-new}
 use Rattle.pareto_search.proofs.LearnedMore.{sum-few}
 
 abbrev pub AreAnswersOf : List (Option ℕ) → List Stop → List Answered → Type 0

@@ -5,7 +5,7 @@ use Rattle.std.proofs.lemmas.List.{drop_more, length_push, map-append}
 use Rattle.std.proofs.lemmas.List.Elements.{Contains-push_cases}
 use Rattle.sd_base.specs.declared.limits.Limits.{Limits}
 use Rattle.sd_base.specs.Net.{Net}
-use Rattle.sd_base.proofs.Containing.{contains-here, contains-later}
+use Rattle.sd_base.proofs.ContainedHavePlaces.{contains-here, contains-later}
 use Rattle.lasso.specs.RunError.{RunError}
 use Rattle.covers.specs.declared.lattice.Lattice.{Lattice}
 use Rattle.evaluations.specs.declared.evaluating.Answered.{Answered}
@@ -14,7 +14,7 @@ use Rattle.evaluations.specs.declared.shown.Shown.{Shown}
 use Rattle.evaluations.specs.declared.shown.Shown.TheVariants.{Cycle, Blocked}
 use Rattle.evaluations.specs.ShownCycles.{shows_cycle}
 use Rattle.evaluations.specs.Evaluating.{least_loops, most_loops, sum_of}
-use Rattle.evaluations.proofs.Tasks.{sum-more}
+use Rattle.evaluations.proofs.FreshTasksFinish.{sum-more}
 use Rattle.walks.specs.declared.telling.Telling.{Telling}
 use Rattle.pareto_search.specs.declared.known.Known.{Known}
 use Rattle.pareto_search.specs.inside.Knowledge.{loops_in, ran}

@@ -13,12 +13,14 @@ use Rattle.covers.specs.declared.search.Search.{Search}
 use Rattle.covers.specs.Bounds.{IsAtMost, IsCovered}
 use Rattle.covers.specs.Lattices.{IsAmong, storage_of}
 use Rattle.covers.specs.Searches.{IsAnswer, IsLevel, IsSame, IsSearched, IsSettled, IsUncovered}
-use Rattle.covers.proofs.Forces.{covered-reached}
+use Rattle.covers.proofs.BoundsStayInForce.{covered-reached}
 use Rattle.walks.specs.declared.telling.Telling.{Telling}
 use Rattle.pareto_search.specs.declared.searching.Due.{Due}
 use Rattle.pareto_search.specs.declared.searching.Searching.{Searching}
+use Rattle.pareto_search.specs.inside.Knowledge.{IsTold}
 use Rattle.pareto_search.specs.inside.Turns.{HasBound, IsClosed, IsDue, IsOver, IsPointed, IsSettling, IsStanding, IsUntil, IsValid}
-use Rattle.pareto_search.proofs.Absorbed.{below-best}
+use Rattle.pareto_search.proofs.TellingsAreAbsorbed.{below-best}
+use Rattle.pareto_search.proofs.ToldBounds.{covers-bounding}
 
 -- a search whose open nodes were looked at
 pub standing-looked : (net : Net) (limits : Limits) (corner : List (Option ℕ)) (lattice : Lattice) (floor : ℕ) (s : Searching) (bs : Search) → IsSame s.bounds bs → IsSearched bs → IsStanding net limits corner lattice floor s → IsStanding net limits corner lattice floor (record { bounds = bs; known = s.known; points = s.points; below = s.below; due = s.due })
@@ -94,7 +96,8 @@ module _ (net : Net) (limits : Limits) (corner : List (Option ℕ)) (lattice : L
     vector-free ks one t told covers =
         let has : HasBound s.bounds.bounds.items t = All-contains (HasBound s.bounds.bounds.items) s.known.tellings.items t all-kept told in
         let slow : IsAtMost t.rate s.bounds.best = All-contains (λ (x : Telling). IsAtMost x.rate s.bounds.best) s.known.tellings.items t all-most told in
-        (All-contains (IsUncovered s.bounds) level.vectors ks of.each one).free (has.0, has.1, subst (λ (r : Fraction). IsAtMost r s.bounds.best) (sym has.2.rate) slow, (has.2.covers ks).1 covers)
+        let mine : IsTold net limits corner lattice t = All-contains (IsTold net limits corner lattice) s.known.tellings.items t is.known.told told in
+        (All-contains (IsUncovered s.bounds) level.vectors ks of.each one).free (has.0, has.1, subst (λ (r : Fraction). IsAtMost r s.bounds.best) (sym has.2.rate) slow, (has.2.covers ks).1 (covers-bounding t mine.bounding ks covers))
 
     floor-low : floor ≤ level.storage
     floor-low =

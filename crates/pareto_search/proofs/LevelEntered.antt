@@ -8,12 +8,12 @@ use Rattle.std.proofs.lemmas.List.{length-map, map-append}
 use Rattle.std.proofs.lemmas.List.Elements.{All-head, All-map, All-nil, All-tail, Contains-get_or}
 use Rattle.sd_base.specs.declared.limits.Limits.{Limits}
 use Rattle.sd_base.specs.Net.{Channel, Net}
-use Rattle.sd_base.proofs.Containing.{contains-here, contains-later}
-use Rattle.sd_base.proofs.Lists.{get-there, map-map}
+use Rattle.sd_base.proofs.ContainedHavePlaces.{contains-here, contains-later}
+use Rattle.sd_base.proofs.ElementsKeepPlaces.{get-there, map-map}
 use Rattle.storage.specs.Distributions.{IsDistribution, storage_of}
 use Rattle.storage.specs.StorageOrder.{AreInOrder, IsBefore}
 use Rattle.fanout.specs.JobRuns.{EachEntered}
-use Rattle.levels.proofs.Entering.{level-entered}
+use Rattle.levels.proofs.NextLevelEnters.{level-entered}
 use Rattle.covers.specs.declared.lattice.Lattice.{Lattice}
 use Rattle.evaluations.specs.declared.evaluating.Answered.{Answered}
 use Rattle.walks.specs.declared.telling.Telling.{Telling}
@@ -27,10 +27,10 @@ use Rattle.pareto_search.specs.inside.Stops.{AreAscending, AreLevel, IsStop}
 use Rattle.pareto_search.specs.inside.Stops as stops
 use Rattle.pareto_search.specs.inside.Turns.{AreStops, EntersOn}
 use Rattle.pareto_search.specs.inside.Vectors.{bounded_by, vector_of}
-use Rattle.pareto_search.proofs.Learned.{bounded_at, stops-new}
+use Rattle.pareto_search.proofs.StopsAreNew.{bounded_at, stops-new}
 use Rattle.pareto_search.proofs.LearnedCounts.{AreAnswersOf, answers-many}
 use Rattle.pareto_search.proofs.NoLater.{not-after-no-later}
-use Rattle.pareto_search.proofs.Sorting.{not-later}
+use Rattle.pareto_search.proofs.DistinctListsSort.{not-later}
 use Rattle.pareto_search.proofs.StopsApart.{not-before}
 use Rattle.pareto_search.proofs.WithinLimit.{flat-storage, on-distribution}
 

@@ -2,14 +2,14 @@
 use Rattle.std.proofs.Common.{◌≡◌, ℕ, ◌≤◌, ◌<◌, Option, List, [], ◌∷◌, length, sym, subst, arith}
 use Rattle.std.specs.Prelude.{All, Contains, slice_index_or}
 use Rattle.std.proofs.lemmas.List.Elements.{All-contains, All-cons, All-nil, Contains-get_or}
-use Rattle.sd_base.proofs.Containing.{contains-here, contains-none}
+use Rattle.sd_base.proofs.ContainedHavePlaces.{contains-here, contains-none}
 use Rattle.sd_base.specs.declared.limits.Limits.{Limits}
 use Rattle.sd_base.specs.Net.{Net}
 use Rattle.covers.specs.declared.lattice.Lattice.{Lattice}
 use Rattle.covers.specs.declared.search.Level.{Level}
 use Rattle.covers.specs.Lattices.{IsAmong, storage_of}
 use Rattle.covers.specs.Searches.{IsLevel}
-use Rattle.covers.proofs.Storages.{storage-le}
+use Rattle.covers.proofs.StorageRises.{storage-le}
 use Rattle.walks.specs.declared.telling.Telling.{Telling}
 use Rattle.pareto_search.specs.declared.searching.Searching.{Searching}
 use Rattle.pareto_search.specs.declared.stops.Stop.{Stop}

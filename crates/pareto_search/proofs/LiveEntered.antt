@@ -8,9 +8,9 @@ use Rattle.sd_base.specs.declared.numbers.Fraction.{Fraction}
 use Rattle.sd_base.specs.Lawful.{Lawful}
 use Rattle.sd_base.specs.Net.{Net}
 use Rattle.sd_base.specs.Untimed.{IsLive}
-use Rattle.sd_base.proofs.Blocking.{live-unblocked}
-use Rattle.sd_base.proofs.Containing.{contains-here, contains-later, contains-none}
-use Rattle.sd_base.proofs.Parts.{wired}
+use Rattle.sd_base.proofs.ClosedCountsBoundRuns.{live-unblocked}
+use Rattle.sd_base.proofs.ContainedHavePlaces.{contains-here, contains-later, contains-none}
+use Rattle.sd_base.proofs.LawfulIsRegular.{wired}
 use Rattle.storage.specs.BoundedNets.{bound}
 use Rattle.guide.specs.declared.rating.Outcome.{Outcome}
 use Rattle.guide.specs.declared.rating.Outcome.TheVariants.{Live, Blocked}

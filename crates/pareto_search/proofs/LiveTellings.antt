@@ -7,7 +7,7 @@ use Rattle.sd_base.specs.declared.limits.Limits.{Limits}
 use Rattle.sd_base.specs.declared.numbers.Fraction.{Fraction}
 use Rattle.sd_base.specs.Net.{Net}
 use Rattle.sd_base.specs.Untimed.{IsLive}
-use Rattle.sd_base.proofs.Containing.{contains-cases, contains-here, contains-later, contains-none}
+use Rattle.sd_base.proofs.ContainedHavePlaces.{contains-cases, contains-here, contains-later, contains-none}
 use Rattle.storage.specs.BoundedNets.{bound}
 use Rattle.guide.specs.declared.rating.Outcome.{Outcome}
 use Rattle.guide.specs.declared.rating.Outcome.TheVariants.{Live, Blocked}
@@ -15,14 +15,14 @@ use Rattle.guide.specs.Evaluations.{IsOutcome}
 use Rattle.covers.specs.declared.lattice.Lattice.{Lattice}
 use Rattle.walks.specs.declared.telling.Telling.{Telling}
 use Rattle.explore.specs.Explorations.{CountsLive}
-use Rattle.explore.proofs.Reaching.{looped-live}
+use Rattle.explore.proofs.ChildCountsReached.{looped-live}
 use Rattle.pareto_search.specs.Entrances.{AreApart}
 use Rattle.pareto_search.specs.declared.known.Known.{Known}
 use Rattle.pareto_search.specs.inside.Grounds.{IsGround}
 use Rattle.pareto_search.specs.inside.Knowledge.{IsKnown, IsTold, counts_in, loops_in, ran, told_of}
 use Rattle.pareto_search.specs.inside.Vectors.{bounded_by}
 use Rattle.pareto_search.proofs.FoundTellings.{loops-few, told-apart, told-reachable}
-use Rattle.pareto_search.proofs.Sorting.{IsSorted, sorted}
+use Rattle.pareto_search.proofs.DistinctListsSort.{IsSorted, sorted}
 
 -- a distribution before others, unless it is blocked
 abbrev with_live : Option (List ℕ) → List (Option ℕ) → List (List (Option ℕ)) → List (List (Option ℕ))

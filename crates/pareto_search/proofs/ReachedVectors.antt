@@ -8,8 +8,8 @@ use Rattle.storage.specs.BoundedNets.{bound}
 use Rattle.storage.specs.Distributions.{storage_of}
 use Rattle.storage.specs.ParetoPoints.{Reaches}
 use Rattle.storage.specs.Steps.{rounded}
-use Rattle.storage.proofs.Corners.{rounded-dist, rounded-most}
-use Rattle.storage.proofs.Covers.{running-live}
+use Rattle.storage.proofs.CornerStaysBelow.{rounded-dist, rounded-most}
+use Rattle.storage.proofs.MembersCover.{running-live}
 use Rattle.storage.proofs.FrontsFromMembers.{same-storage}
 use Rattle.covers.specs.declared.lattice.Lattice.{Lattice}
 use Rattle.covers.specs.Lattices.{IsAmong, storage_of as needed}

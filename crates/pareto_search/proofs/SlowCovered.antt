@@ -17,7 +17,6 @@ use Rattle.pareto_search.specs.inside.Grounds.{IsGround}
 use Rattle.pareto_search.specs.inside.Knowledge.{IsTold}
 use Rattle.pareto_search.specs.inside.Turns.{IsBoundOf, IsValid}
 use Rattle.pareto_search.specs.inside.Vectors.{bounded_by}
-use Rattle.pareto_search.proofs.ToldBounds.{told-bounds}
 
 module _ (net : Net) (limits : Limits) (corner : List (Option ℕ)) (lattice : Lattice) (base : IsGround net limits corner lattice) where
   -- what was told has the rate of its net
@@ -26,7 +25,7 @@ module _ (net : Net) (limits : Limits) (corner : List (Option ℕ)) (lattice : L
 
   pub bound-valid : (t : Telling) (b : Bound) → IsTold net limits corner lattice t → IsBoundOf t b → IsValid net corner lattice b
   bound-valid t b told of ks among covers x y rate =
-      subst (λ (r : Fraction). x * r.den ≤ r.num * y) (sym of.rate) (told-bounds net limits corner lattice base t told ks among ((of.covers ks).0 covers) x y rate)
+      subst (λ (r : Fraction). x * r.den ≤ r.num * y) (sym of.rate) (told.bounds ks among ((of.covers ks).0 covers) x y rate)
 
   module _ (bs : List Bound) (valid : All (IsValid net corner lattice) bs) (r : Fraction) where
     pub covered-slow : (ks : List ℕ) → IsAmong lattice ks → IsCovered bs r ks → (x y : ℕ) → Rate (bound net (bounded_by corner ks)) x y → x * r.den ≤ r.num * y

@@ -16,7 +16,7 @@ use Rattle.covers.specs.declared.lattice.Lattice.{Lattice}
 use Rattle.covers.specs.Lattices.{IsAmong}
 use Rattle.walks.specs.declared.telling.Telling.{Telling}
 use Rattle.walks.specs.Tellings.{IsUnder}
-use Rattle.explore.proofs.Reaching.{looped-live}
+use Rattle.explore.proofs.ChildCountsReached.{looped-live}
 use Rattle.pareto_search.specs.inside.Grounds.{IsGround}
 use Rattle.pareto_search.specs.inside.Knowledge.{IsTold, counts_in}
 use Rattle.pareto_search.specs.inside.Vectors.{bounded_by}
@@ -31,7 +31,7 @@ abbrev pub counts_or : List ℕ → Option (List ℕ) → List ℕ
 counts_or whole None = whole
 counts_or whole (Some counts) = counts
 
-blocked-reached : (net : Net) (counts : List ℕ) (lacks : List (Option ℕ)) → IsBlockedBy net counts lacks → AreReachedCounts net counts
+pub blocked-reached : (net : Net) (counts : List ℕ) (lacks : List (Option ℕ)) → IsBlockedBy net counts lacks → AreReachedCounts net counts
 blocked-reached net counts lacks is = record { actors = is.actors; order = is.ends.order; fires = is.ends.fires; reached = is.ends.counts }
 
 outcome-reached : (net : Net) → Lawful net → (whole : List ℕ) → AreWhole net whole → (ds es : List (Option ℕ)) → Lawful (bound net es) → AtMost ds es → (states : ℕ) (e : Evaluation) → IsEvaluated net ds states e → (outcome : Outcome) → IsOutcome net ds states e.rate e.enlarge outcome →

@@ -10,7 +10,7 @@ use Rattle.std.proofs.lemmas.Cmp.{nat_list_cmp_total, ranked}
 use Rattle.std.proofs.lemmas.List.Elements.{All-cons, All-head, All-nil, All-tail, Contains-get_or}
 use Rattle.std.proofs.lemmas.Map.Lookups.{exact_bytes, exact_unsigned}
 use Rattle.std.proofs.lemmas.Option.{get_or_from_slice_get, slice_get_within}
-use Rattle.sd_base.proofs.Containing.{contains-here, contains-none}
+use Rattle.sd_base.proofs.ContainedHavePlaces.{contains-here, contains-none}
 use Rattle.pareto_search.specs.declared.stops.Stop.{Stop}
 use Rattle.pareto_search.specs.inside.Stops.{AreAscending, AreLevel, HasStop, IsBefore, IsPlace, IsTakenIn, against}
 

@@ -4,32 +4,32 @@ use Rattle.std.specs.Prelude.{All, Contains, slice_index, slice_set}
 use Rattle.std.proofs.lemmas.List.Elements.{All-contains, All-weaker, Contains-get_or}
 use Rattle.sd_base.specs.declared.limits.Limits.{Limits}
 use Rattle.sd_base.specs.Net.{Net, channel_at}
-use Rattle.sd_base.proofs.Lists.{get-there, some-within}
+use Rattle.sd_base.proofs.ElementsKeepPlaces.{get-there, some-within}
 use Rattle.storage.specs.ClosedLists.{AgreesOn}
 use Rattle.storage.specs.Distributions.{capacity_at, storage_of}
 use Rattle.storage.specs.StorageOrder.{stepped}
 use Rattle.storage.specs.Steps.{step_of}
 use Rattle.storage.proofs.BoundedChannels.{IsBounded}
-use Rattle.storage.proofs.Enlarging.{most-same}
+use Rattle.storage.proofs.EnlargingAddsRoom.{most-same}
 use Rattle.guide.specs.Guides.{IsInGuide}
 use Rattle.guide.proofs.ShownWithMoreRoom.{evaluation-guides}
 use Rattle.covers.specs.declared.lattice.Axis.{Axis}
 use Rattle.covers.specs.declared.lattice.Lattice.{Lattice}
 use Rattle.covers.specs.Lattices.{IsAmong, IsOnLattice, corner_of}
-use Rattle.covers.proofs.Rooting.{corner-below, corner-on-lattice}
-use Rattle.covers.proofs.Storages.{storage-le as needed-le}
+use Rattle.covers.proofs.RootHoldsLattice.{corner-below, corner-on-lattice}
+use Rattle.covers.proofs.StorageRises.{storage-le as needed-le}
 use Rattle.walks.specs.declared.telling.Telling.{Telling}
 use Rattle.walks.specs.Tellings.{HoldsBack, IsUnder}
 use Rattle.walks.specs.Walks.{AreOnLattice, IsWalked, begin, begin_at, step, step_at}
-use Rattle.walks.proofs.Between.{walked-below, walked-on}
-use Rattle.walks.proofs.Steps.{step-here}
+use Rattle.walks.proofs.WalksStayBetween.{walked-below, walked-on}
+use Rattle.walks.proofs.StepsFitLattice.{step-here}
 use Rattle.explore.specs.Reachable.{IsReachable, corner as at_corner, next as further}
 use Rattle.explore.specs.inside.Searches.{IsCandidate}
-use Rattle.explore.proofs.Stepping.{shown-bounded}
+use Rattle.explore.proofs.StepsGiveCandidates.{shown-bounded}
 use Rattle.pareto_search.specs.inside.Grounds.{IsGround}
 use Rattle.pareto_search.specs.inside.Knowledge.{IsTold}
 use Rattle.pareto_search.specs.inside.Vectors.{bounded_by, vector_of}
-use Rattle.pareto_search.proofs.Axes.{axes-length, axis-step, corner-vector}
+use Rattle.pareto_search.proofs.CornersGiveAxes.{axes-length, axis-step, corner-vector}
 use Rattle.pareto_search.proofs.BoundedBy.{bounded-at, bounded-enlarged, bounded-same, bounded-vector, flat-set}
 use Rattle.pareto_search.proofs.WithinLimit.{among-evaluable, among-within, on-distribution, on-grid, on-under}
 

@@ -11,12 +11,12 @@ use Rattle.sd_base.specs.Untimed.{IsLive}
 use Rattle.storage.specs.BoundedNets.{bound}
 use Rattle.storage.specs.Distributions.{AtMost, CanHold, IsDistribution, storage_of}
 use Rattle.storage.specs.Steps.{IsOnGrid, rounded}
-use Rattle.storage.proofs.Climbs.{storage-le}
+use Rattle.storage.proofs.StepsReachMembers.{storage-le}
 use Rattle.storage.proofs.CornerLists.{corner-distribution, corner-grid}
-use Rattle.storage.proofs.Corners.{rounded-above, rounded-grid, rounded-most}
-use Rattle.storage.proofs.Covers.{net-steps, rounding-rate}
+use Rattle.storage.proofs.CornerStaysBelow.{rounded-above, rounded-grid, rounded-most}
+use Rattle.storage.proofs.MembersCover.{net-steps, rounding-rate}
 use Rattle.storage.proofs.FileChannels.{plain-no_spaces}
-use Rattle.storage.proofs.Fits.{can-hold, within-lawful}
+use Rattle.storage.proofs.DistributionsShareLaws.{can-hold, within-lawful}
 use Rattle.guide.specs.Evaluations.{IsEvaluable}
 use Rattle.covers.specs.declared.lattice.Lattice.{Lattice}
 use Rattle.covers.specs.Lattices.{IsAmong, IsOnLattice, storage_of as needed}

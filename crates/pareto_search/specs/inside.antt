@@ -1,6 +1,7 @@
 pub mod Vectors
 pub mod Grounds
 pub mod Knowledge
+pub mod Waits
 pub mod Stops
 pub mod Learning
 pub mod Turns

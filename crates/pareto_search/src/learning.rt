@@ -1,5 +1,5 @@
 //! What evaluations tell is kept.
-ghost use Rattle.std.specs.Prelude.{◌≡◌, ◌+◌, ◌<◌, ◌≤◌, ◌++◌, [], ◌∷◌, ℕ, All, IfErr, IfOk, OnOk, length};
+ghost use Rattle.std.specs.Prelude.{◌≡◌, ◌+◌, ◌<◌, ◌≤◌, ◌++◌, ℕ, All, IfErr, IfOk, Ok, OnOk, length};
 ghost use Rattle.sd_base.specs.declared.limits.Limits.{Limits as SomeLimits};
 ghost use Rattle.sd_base.specs.declared.numbers.Fraction.{Fraction as AFraction};
 ghost use Rattle.sd_base.specs.Net.{Net};
@@ -7,13 +7,15 @@ ghost use Rattle.guide.specs.Evaluations.{IsRefused};
 ghost use Rattle.evaluations.specs.Evaluating.{IsEvaluation};
 ghost use Rattle.explore.specs.Explorations.{IsRefusal};
 ghost use Rattle.explore.specs.Reachable.{IsReachable};
+ghost use Rattle.pareto_search.specs.inside.Grounds.{IsGround};
 ghost use Rattle.pareto_search.specs.inside.Knowledge.{IsKnown};
-ghost use Rattle.pareto_search.specs.inside.Learning.{AreLearned, AreNew, IsLearned, IsNew, answered_of, counts_of, loops_of, telling_of};
+ghost use Rattle.pareto_search.specs.inside.Learning.{AddsTelling, AreLearned, AreNew, IsLearned, IsNew, answered_of, counts_of, loops_of};
 ghost use Rattle.pareto_search.specs.inside.Turns.{IsBoundOf};
 
 use crate::evaluating::Ground;
 use crate::grid::vector_of;
 use crate::known::{Known, Looped};
+use crate::waits::bounding_of;
 use covers::{Bound, Cap, capacity_at};
 use evaluations::{Answered, Rated, Shown};
 use explore::ExploreError;
@@ -30,6 +32,7 @@ pub(crate) fn learn_all<F: Firing>(
     answers: Vec<Answered>,
     known: &mut Known,
 ) -> Result<(), ExploreError>
+    requires stands { IsGround (F.net base.now.exploring.now.net.now) base.now.exploring.now.limits base.now.corner.now.capacities base.now.lattice.now }
     requires new { AreNew (F.net base.now.exploring.now.net.now) base.now.exploring.now.limits base.now.corner.now.capacities base.now.lattice.now known.old.tellings.items (answered_of answers.items) }
     requires answers { (best : AFraction) × All (λ a. IsEvaluation (F.net base.now.exploring.now.net.now) base.now.exploring.now.limits.states best a.capacities a.answer) answers.items }
     requires few { length known.old.tellings.items + length answers.items ≤ base.now.exploring.now.limits.distributions }
@@ -51,6 +54,7 @@ fn learn<F: Firing>(
     answered: Answered,
     known: &mut Known,
 ) -> Result<(), ExploreError>
+    requires stands { IsGround (F.net base.now.exploring.now.net.now) base.now.exploring.now.limits base.now.corner.now.capacities base.now.lattice.now }
     requires new { IsNew (F.net base.now.exploring.now.net.now) base.now.exploring.now.limits base.now.corner.now.capacities base.now.lattice.now known.old.tellings.items answered.capacities.capacities }
     requires answer { (best : AFraction) × IsEvaluation (F.net base.now.exploring.now.net.now) base.now.exploring.now.limits.states best answered.capacities answered.answer }
     requires few { length known.old.tellings.items < base.now.exploring.now.limits.distributions }
@@ -63,25 +67,29 @@ fn learn<F: Firing>(
     let Answered { capacities, answer } = answered;
     match answer {
         Ok(rated) => {
-            keep(base.exploring.alloc, &capacities, rated, known)?;
+            keep(base, &capacities, rated, known)?;
             Ok(())
         }
         Err(error) => Err(refusal(error, capacities)),
     }
 }
 
-/// Keeps what is rated, and the loop if there is one.
-fn keep(
-    alloc: Global,
+/// Keeps what is rated, with the channels on which it bounds, and the loop if there is one. Cost: that of `bounding_of`.
+fn keep<F: Firing>(
+    base: &Ground<F>,
     capacities: &Distribution,
     rated: Rated,
     known: &mut Known,
 ) -> Result<(), NoMemory>
-    ensures tellings { OnOk result (known.new.tellings.items ≡ known.old.tellings.items ++ telling_of capacities.now.capacities rated ∷ []) }
+    requires stands { IsGround (F.net base.now.exploring.now.net.now) base.now.exploring.now.limits base.now.corner.now.capacities base.now.lattice.now }
+    requires new { IsNew (F.net base.now.exploring.now.net.now) base.now.exploring.now.limits base.now.corner.now.capacities base.now.lattice.now known.old.tellings.items capacities.now.capacities }
+    requires evaluated { (best : AFraction) × IsEvaluation (F.net base.now.exploring.now.net.now) base.now.exploring.now.limits.states best capacities.now (Ok rated) }
+    ensures tellings { OnOk result (AddsTelling (F.net base.now.exploring.now.net.now) base.now.corner.now.capacities base.now.lattice.now capacities.now.capacities rated known.old known.new) }
     ensures loops { OnOk result (known.new.loops.items ≡ known.old.loops.items ++ loops_of (length known.old.tellings.items) rated.table) }
 {
     let place = known.tellings.len();
-    let vector = vector_of(alloc, capacities)?;
+    let vector = vector_of(base.exploring.alloc, capacities)?;
+    let bounding = bounding_of(base, capacities, &rated)?;
     let Rated {
         rate,
         enlarge,
@@ -91,6 +99,7 @@ fn keep(
     known.tellings.push(Telling {
         capacities: vector,
         enlarge,
+        bounding,
         rate,
         blocked: counts_of(shown),
     })?;
@@ -136,14 +145,14 @@ fn refusal(error: RunError, at: Distribution) -> ExploreError
     }
 }
 
-/// The bound that an evaluation shows: capacities that are at most its own on the channels that it shows have at most its
-/// rate. Cost: linear in these channels.
+/// The bound that an evaluation shows: capacities that are at most its own on the channels on which it bounds have at most
+/// its rate. Cost: linear in these channels.
 pub(crate) fn bound_of(alloc: Global, telling: &Telling) -> Result<Bound, NoMemory>
     ensures { IfOk result (IsBoundOf telling.now) }
 {
     let capacities = telling.capacities.as_slice();
     let mut caps = Rows::new(alloc);
-    for channel in telling.enlarge.as_slice() {
+    for channel in telling.bounding.as_slice() {
         caps.push(Cap {
             channel: *channel,
             capacity: capacity_at(capacities, *channel),

@@ -13,5 +13,6 @@ mod search;
 mod searching;
 mod stops;
 mod unspaced;
+mod waits;
 
 pub use search::pareto_points;

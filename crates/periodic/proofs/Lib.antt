@@ -1,9 +1,9 @@
-pub mod Recurring
-pub mod Feeding
-pub mod Bounds
-pub mod Needies
+pub mod StartsComeAgain
+pub mod NeedsEndInTime
+pub mod SchedulesBoundCounts
+pub mod CodeFindsNeeds
 pub mod MovedBack
 pub mod LoopsHold
 pub mod LoopStarts
 pub mod TestsDecide
-pub mod Lines
+pub mod RightLinesDecide

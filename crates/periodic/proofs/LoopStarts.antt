@@ -9,8 +9,8 @@ use Rattle.sd_base.specs.Schedules.{count_of, start_of, HasInputs}
 use Rattle.sd_base.specs.SelfTimed.{earliest, starts_by}
 use Rattle.sd_base.specs.Lawful.{Lawful}
 use Rattle.sd_base.specs.Rates.{IsLoopTable}
-use Rattle.sd_base.proofs.Parts.{regular}
-use Rattle.sd_base.proofs.Counts.{early_at}
+use Rattle.sd_base.proofs.LawfulIsRegular.{regular}
+use Rattle.sd_base.proofs.EndsDecideCounts.{early_at}
 use Rattle.firing.specs.declared.table.LoopTable.{LoopTable}
 use Rattle.periodic.specs.LoopSchedules.{IsLoopSchedule, OneLoopSchedule}
 use Rattle.periodic.specs.inside.Passes.{turns_back, back_start, back_at, HasPasses, IsMoved, AreMovedBack}

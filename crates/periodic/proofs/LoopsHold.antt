@@ -6,13 +6,13 @@ use Rattle.sd_base.specs.Schedules.{time_of, Needs, count_of, start_of, end_of, 
 use Rattle.sd_base.specs.SelfTimed.{earliest}
 use Rattle.sd_base.specs.Lawful.{Lawful}
 use Rattle.sd_base.specs.Rates.{IsLoopTable}
-use Rattle.sd_base.proofs.Parts.{wired, balanced}
-use Rattle.sd_base.proofs.Rounds.{Whole, whole-rounds, whole-times, time-shift, needs-shift}
+use Rattle.sd_base.proofs.LawfulIsRegular.{wired, balanced}
+use Rattle.sd_base.proofs.RoundsKeepTokens.{Whole, whole-rounds, whole-times, time-shift, needs-shift}
 use Rattle.sd_base.proofs.LoopPasses as passes
 use Rattle.periodic.specs.Periods.{start_at, Holds}
 use Rattle.periodic.specs.LoopSchedules.{IsLoopSchedule, LoopHolds}
-use Rattle.periodic.proofs.Recurring.{start-later, start-listed}
-use Rattle.periodic.proofs.Feeding.{AllFed}
+use Rattle.periodic.proofs.StartsComeAgain.{start-later, start-listed}
+use Rattle.periodic.proofs.NeedsEndInTime.{AllFed}
 use Rattle.periodic.proofs.TestsDecide.{fed-hold}
 
 module _ (net : Net) (laws : Lawful net) (inputs : HasInputs net) (entry period rounds : ℕ) (before : List ℕ) (starts : List (List ℕ))

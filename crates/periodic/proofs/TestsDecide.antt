@@ -7,13 +7,13 @@ use Rattle.std.proofs.lemmas.List.FromFn.{length-map-range_with_len, get_or-map-
 use Rattle.sd_base.specs.Net.{Net, channel_at}
 use Rattle.sd_base.specs.Schedules.{time_of, LastNeed, Schedule, count_of, start_of, end_of, Admissible}
 use Rattle.sd_base.specs.Lawful.{Lawful}
-use Rattle.sd_base.proofs.Parts.{wired, balanced, one_by_one}
-use Rattle.sd_base.proofs.Admissibles.{no_actor}
+use Rattle.sd_base.proofs.LawfulIsRegular.{wired, balanced, one_by_one}
+use Rattle.sd_base.proofs.FiringsKeepOrder.{no_actor}
 use Rattle.periodic.specs.Periods.{start_at, IsCut, HasRounds, Holds}
 use Rattle.periodic.specs.ScheduleLines.{Rises}
 use Rattle.periodic.specs.inside.FiniteTests.{IsFed}
-use Rattle.periodic.proofs.Recurring.{start-later, all-rise, listed-rise, starts-in_order, some-turn, whole-starts}
-use Rattle.periodic.proofs.Feeding.{AllFed, all-fed}
+use Rattle.periodic.proofs.StartsComeAgain.{start-later, all-rise, listed-rise, starts-in_order, some-turn, whole-starts}
+use Rattle.periodic.proofs.NeedsEndInTime.{AllFed, all-fed}
 
 -- ---- the first number at which a rising function has reached t
 

@@ -8,7 +8,7 @@ use Rattle.sd_base.specs.declared.tables.GraphFile.{GraphFile}
 use Rattle.balance.specs.declared.walk.WalkStep.{WalkStep}
 use Rattle.report.specs.WalkTexts.{more_steps, step_text}
 use Rattle.sd_base.specs.Net.{Net}
-use Rattle.sd_base.proofs.Lists.{flat_end, piece_next}
+use Rattle.sd_base.proofs.ElementsKeepPlaces.{flat_end, piece_next}
 use Rattle.periodic.specs.declared.schedule.Periodic.{Periodic}
 use Rattle.pareto_front.specs.declared.point.Point.{Point}
 use Rattle.critical.specs.declared.cycle.CycleStep.{CycleStep}

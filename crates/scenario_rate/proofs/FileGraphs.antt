@@ -4,12 +4,12 @@ use Rattle.std.specs.Prelude.{slice_get, Some}
 use Rattle.std.proofs.lemmas.Option.{slice_get_within}
 use Rattle.sd_base.specs.declared.tables.ScenarioFile.{ScenarioFile}
 use Rattle.sd_base.specs.Scenarios.{shared_count}
-use Rattle.sd_base.proofs.Lists.{get-there}
-use Rattle.sd_base.proofs.Truths.{pair-small}
+use Rattle.sd_base.proofs.ElementsKeepPlaces.{get-there}
+use Rattle.sd_base.proofs.ByteTestsDecide.{pair-small}
 use Rattle.automaton.specs.declared.graph.Edge.{Edge}
 use Rattle.automaton.specs.declared.graph.TimedGraph.{TimedGraph}
 use Rattle.automaton.specs.TimedGraphs.{IsTimedGraph}
-use Rattle.automaton.proofs.Members.{Has, get-has, from-from, FromStates}
+use Rattle.automaton.proofs.EdgesComeFromEntries.{Has, get-has, from-from, FromStates}
 use Rattle.automaton.specs.SoundGraphs.{IsSound}
 
 -- the ends and the weight of an edge

@@ -17,7 +17,7 @@ pub enum End {
 
 /// By node the edges of a list that have an end there, by their numbers in the order of the list. Cost: linear in the
 /// nodes and the list.
-pub fn edges_by_node(
+pub(crate) fn edges_by_node(
     alloc: Global,
     edges: &[Edge],
     list: &[u32],
@@ -37,7 +37,7 @@ pub fn edges_by_node(
 }
 
 /// The edges that are listed at a node.
-pub fn edges_at(lists: &[Rows<u32>], node: u32) -> &[u32]
+pub(crate) fn edges_at(lists: &[Rows<u32>], node: u32) -> &[u32]
     requires { node < length lists.now }
     ensures { result.now ≡ list_at lists.now node }
 {

@@ -16,7 +16,7 @@ use std::alloc::Global;
 /// The chosen cycle of the edges of a list, node by node from 0 on: distances to the node, until one is on a cycle.
 /// Cost: for each node up to that one, linear in the nodes, and in the edges of the list into those from which they
 /// lead to it.
-pub fn chosen_cycle(
+pub(crate) fn chosen_cycle(
     alloc: Global,
     edges: &[Edge],
     tight: &[u32],

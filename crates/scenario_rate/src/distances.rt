@@ -16,7 +16,7 @@ use std::collections::VecDeque;
 /// By node the fewest edges that lead from it to a root, where the edges into each node are listed; none where none do.
 /// A search in breadth: nodes wait in a queue in the order in which they are reached (Moore 1959). Cost: linear in the
 /// nodes, and in the edges into those from which edges lead to the root.
-pub fn distances(
+pub(crate) fn distances(
     alloc: Global,
     edges: &[Edge],
     into: &[Rows<u32>],

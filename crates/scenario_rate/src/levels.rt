@@ -12,13 +12,15 @@ use std::alloc::Global;
 
 /// The best score at a node of a level, and the edge that raised it there, if one did.
 #[derive(Clone, Copy)]
-pub struct Cell {
+pub(crate) struct Cell {
+    /// In time units times rounds.
     pub score: u128,
+    /// The number of the edge.
     pub edge: Option<u32>,
 }
 
 /// The row of level 0: the nodes of the initial state have score 0.
-pub fn first_row(alloc: Global, graph: &TimedGraph) -> Result<Vec<Option<Cell>>, NoMemory>
+pub(crate) fn first_row(alloc: Global, graph: &TimedGraph) -> Result<Vec<Option<Cell>>, NoMemory>
     requires { IsSound graph.now }
     ensures first { IfOk result (λ row. IsFirst graph.now (cell_at row.items)) }
     ensures size { IfOk result (λ row. length row.items ≡ node_count graph.now) }
@@ -46,7 +48,7 @@ fn first_cell(graph: &TimedGraph, node: u32) -> Option<Cell>
 }
 
 /// The row of the next level: what it keeps of the last one, raised over each edge.
-pub fn next_row(
+pub(crate) fn next_row(
     alloc: Global,
     edges: &[Edge],
     row: &[Option<Cell>],
@@ -132,7 +134,7 @@ fn is_below(cell: Option<Cell>, score: u128) -> bool
 
 /// Of the nodes that an edge raised the last one with the greatest score: its walk most often closes a cycle that
 /// gains much.
-pub fn raised_node(row: &[Option<Cell>]) -> Option<usize>
+pub(crate) fn raised_node(row: &[Option<Cell>]) -> Option<usize>
     ensures { MatchOption result (AreSettled (cell_at row.now))
         (λ v. (v < length row.now) × ((c : Cell) × (cell_at row.now v ≡ Some c) × ((k : _) × (c.edge ≡ Some k)))) }
 {
@@ -166,7 +168,7 @@ fn raised_score(cell: Option<Cell>, least: u128) -> Option<u128>
 }
 
 /// The edge that raised a cell.
-pub fn edge_of(cell: Option<Cell>) -> Option<u32>
+pub(crate) fn edge_of(cell: Option<Cell>) -> Option<u32>
     ensures { result ≡ edge_in cell }
 {
     match cell {

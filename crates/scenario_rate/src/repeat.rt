@@ -9,14 +9,16 @@ use std::alloc::Global;
 
 /// A part of a walk: the edges from one place up to another.
 #[derive(Clone, Copy)]
-pub struct Part {
+pub(crate) struct Part {
+    /// The place of its first edge, from 0.
     pub start: usize,
+    /// The place after that of its last edge.
     pub end: usize,
 }
 
 /// The first part that leads back to where it began: no two nodes before its end are the same. Cost: quadratic in
 /// the edges of the walk.
-pub fn first_return(edges: &[Edge], walk: &[u32], last: u32) -> Option<Part>
+pub(crate) fn first_return(edges: &[Edge], walk: &[u32], last: u32) -> Option<Part>
     requires { AreNumbers edges.now walk.now }
     ensures { MatchOption result (DifferBelow edges.now walk.now last (length walk.now + 1))
         (λ p. (p.start < p.end) × (p.end ≤ length walk.now) × (node_after edges.now walk.now last p.start ≡ node_after edges.now walk.now last p.end)
@@ -58,7 +60,7 @@ fn node_at(edges: &[Edge], walk: &[u32], last: u32, place: usize) -> u32
 }
 
 /// The edges of a part of a walk.
-pub fn edges_of(alloc: Global, walk: &[u32], part: Part) -> Result<Vec<u32>, NoMemory>
+pub(crate) fn edges_of(alloc: Global, walk: &[u32], part: Part) -> Result<Vec<u32>, NoMemory>
     requires order { part.start ≤ part.end }
     requires within { part.end ≤ length walk.now }
     ensures { IfOk result (λ piece. piece.items ≡ take (part.end - part.start) (drop part.start walk.now)) }

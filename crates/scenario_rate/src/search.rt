@@ -13,9 +13,10 @@ use std::alloc::Global;
 
 /// The rows of a search at a rate of `rounds` per `time`, from level 0 on.
 #[derive(Drop)]
-pub struct Levels {
+pub(crate) struct Levels {
     pub rounds: u64,
     pub time: u64,
+    /// By level and then by node; none where no walk of at most so many edges ends.
     pub rows: Vec<Rows<Option<Cell>>>,
 }
 
@@ -29,7 +30,7 @@ pub enum Outcome {
 }
 
 /// Makes level after level, `most` at most. Cost: linear in the levels that are made, times the edges.
-pub fn search(
+pub(crate) fn search(
     alloc: Global,
     graph: &TimedGraph,
     rounds: u64,
@@ -66,7 +67,7 @@ pub fn search(
 }
 
 /// The row of a level.
-pub fn row_at(rows: &[Rows<Option<Cell>>], level: usize) -> &[Option<Cell>]
+pub(crate) fn row_at(rows: &[Rows<Option<Cell>>], level: usize) -> &[Option<Cell>]
     requires { level < length rows.now }
     ensures { result.now ≡ slice_index_or rows.now level [] }
 {

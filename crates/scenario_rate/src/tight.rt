@@ -11,7 +11,7 @@ use sd_base::NoMemory;
 use std::alloc::Global;
 
 /// The numbers of the tight edges, by the scores of a row at a rate of `rounds` per `time`.
-pub fn tight_edges(
+pub(crate) fn tight_edges(
     alloc: Global,
     edges: &[Edge],
     row: &[Option<Cell>],

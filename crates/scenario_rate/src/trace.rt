@@ -14,7 +14,7 @@ use std::alloc::Global;
 
 /// The walk, edge by edge: that of the level before, and the edge that raised the node here, if one did.
 /// Cost: linear in the level.
-pub fn walk_to(
+pub(crate) fn walk_to(
     alloc: Global,
     graph: &TimedGraph,
     levels: &Levels,

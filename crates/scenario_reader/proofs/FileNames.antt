@@ -19,7 +19,7 @@ use Rattle.graph_reader.specs.Field.{word_of}
 use Rattle.graph_reader.specs.TreeSteps.{children, Gives}
 use Rattle.graph_reader.specs.WritableNames.{IsWritableName, HasWritableNames}
 use Rattle.graph_reader.proofs.ReadNames.{all-from_each, each-read, name-writable, only-characters, graph-names}
-use Rattle.graph_reader.proofs.Values.{children-characters}
+use Rattle.graph_reader.proofs.ValuesAreCharacters.{children-characters}
 use Rattle.scenario_reader.specs.declared.states.State.{State}
 use Rattle.scenario_reader.specs.ScenarioFiles.{ReadFileIsWritable}
 use Rattle.scenario_reader.specs.ScenarioNames.{FileHasWritableNames}

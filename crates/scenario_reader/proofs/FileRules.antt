@@ -15,7 +15,7 @@ use Rattle.sd_base.specs.declared.tables.SharedRow.{SharedRow}
 use Rattle.sd_base.specs.declared.tables.StateRow.{StateRow}
 use Rattle.sd_base.specs.Tables.{KeepsRules, IsTimed}
 use Rattle.sd_base.specs.Scenarios.{shared_count, ScenarioKeepsRules, FileKeepsRules}
-use Rattle.sd_base.proofs.Lists.{push-all}
+use Rattle.sd_base.proofs.ElementsKeepPlaces.{push-all}
 use Rattle.file_text.specs.Node.{Node}
 use Rattle.graph_reader.specs.declared.field.Field.{Field}
 use Rattle.graph_reader.specs.declared.field.Field.TheVariants as field
@@ -29,10 +29,10 @@ use Rattle.graph_reader.specs.Spelled.{Pairwise, EachTwo, IsGraph}
 use Rattle.graph_reader.proofs.ReaderSteps.{then, skip, weaker, both, choice}
 use Rattle.graph_reader.proofs.NumberLists.{within}
 use Rattle.graph_reader.proofs.ElementPlaces.{AfterEach, Follows, each-gives, Related, two-from_after, Counted, few-from_counted, Each-from_none, Each-weaker}
-use Rattle.graph_reader.proofs.Found.{NamesDiffer, graph-kind, names-apart}
-use Rattle.graph_reader.proofs.Found
-use Rattle.graph_reader.proofs.Rules.{Keeps}
-use Rattle.graph_reader.proofs.Rules
+use Rattle.graph_reader.proofs.ReadTreesAreSpelled.{NamesDiffer, graph-kind, names-apart}
+use Rattle.graph_reader.proofs.ReadTreesAreSpelled
+use Rattle.graph_reader.proofs.TablesKeepRules.{Keeps}
+use Rattle.graph_reader.proofs.TablesKeepRules
 use Rattle.scenario_reader.specs.declared.states.State.{State}
 use Rattle.scenario_reader.specs.ScenarioSections as files
 use Rattle.scenario_reader.proofs.SharedRows.{all-at, each-at, one-place, IsShared, HasNames, shared_of, shares}
@@ -83,7 +83,7 @@ record GraphFits (g : GraphFile) : Type 0 where
 graph_in : (name : List ℕ) (e : Node) → IfOk (Sections.graph_in Sdf name true e) GraphFits
 graph_in name e =
     weaker (λ g. Keeps true g × ((IsTrue true → IsTimed g) → IsGraph Sdf true e g)) GraphFits (Sections.graph_in Sdf name true e)
-    (both (Keeps true) (λ g. (IsTrue true → IsTimed g) → IsGraph Sdf true e g) (Sections.graph_in Sdf name true e) (Rules.graph_in Sdf name true e) (Found.graph_in Sdf name true e)) (λ g h.
+    (both (Keeps true) (λ g. (IsTrue true → IsTimed g) → IsGraph Sdf true e g) (Sections.graph_in Sdf name true e) (TablesKeepRules.graph_in Sdf name true e) (ReadTreesAreSpelled.graph_in Sdf name true e)) (λ g h.
     let is = h.1 h.0.1 in
     record { rules = h.0.0; kind = graph-kind Sdf true e g is; timed = h.0.1 refl; names = names-apart Sdf true e g is })
 

@@ -23,7 +23,7 @@ use Rattle.graph_reader.specs.Sections
 use Rattle.graph_reader.proofs.ReaderSteps.{then-ok}
 use Rattle.graph_reader.proofs.NumberLists.{within-again}
 use Rattle.graph_reader.proofs.ElementPlaces.{each-given, Related, after-from_two, Counted, counted-from_few, no-count, none-from_Each, Each-weaker}
-use Rattle.graph_reader.proofs.Again.{required, new_name, one, root_of, graph_in}
+use Rattle.graph_reader.proofs.SpelledTreesAreRead.{required, new_name, one, root_of, graph_in}
 use Rattle.scenario_reader.specs.declared.states.State.{State}
 use Rattle.scenario_reader.specs.ScenarioSections as files
 use Rattle.scenario_reader.specs.ScenarioSpelled.{IsScenario, AreScenarios, AreSame, AreShared, IsState, AreStates, IsInitial, NamesSuccessor, IsStateRow, AreRows, IsScenarioFile}

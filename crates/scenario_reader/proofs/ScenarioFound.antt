@@ -27,10 +27,10 @@ use Rattle.graph_reader.specs.Spelled.{Pairwise, EachTwo, Has, IsGraph}
 use Rattle.graph_reader.proofs.ReaderSteps.{then, weaker, both, choice}
 use Rattle.graph_reader.proofs.NumberLists.{within}
 use Rattle.graph_reader.proofs.ElementPlaces.{AfterEach, Follows, each-gives, Related, two-from_after, count-from_after, Counted, Each-from_none, Each-weaker}
-use Rattle.graph_reader.proofs.Found.{required, new_name, IsNew, one, root_of, known}
-use Rattle.graph_reader.proofs.Found
-use Rattle.graph_reader.proofs.Rules.{Keeps}
-use Rattle.graph_reader.proofs.Rules
+use Rattle.graph_reader.proofs.ReadTreesAreSpelled.{required, new_name, IsNew, one, root_of, known}
+use Rattle.graph_reader.proofs.ReadTreesAreSpelled
+use Rattle.graph_reader.proofs.TablesKeepRules.{Keeps}
+use Rattle.graph_reader.proofs.TablesKeepRules
 use Rattle.scenario_reader.specs.declared.states.State.{State}
 use Rattle.scenario_reader.specs.ScenarioSections as files
 use Rattle.scenario_reader.specs.ScenarioSpelled.{IsScenario, AreScenarios, AreSame, AreShared, IsState, AreStates, IsInitial, NamesSuccessor, IsStateRow, AreRows, IsScenarioFile}
@@ -69,7 +69,7 @@ ScenariosDiffer s t = s.name ≢ t.name
 graph_in : (name : List ℕ) (e : Node) → IfOk (Sections.graph_in Sdf name true e) (IsGraph Sdf true e)
 graph_in name e =
     weaker (λ g. Keeps true g × ((IsTrue true → IsTimed g) → IsGraph Sdf true e g)) (IsGraph Sdf true e) (Sections.graph_in Sdf name true e)
-    (both (Keeps true) (λ g. (IsTrue true → IsTimed g) → IsGraph Sdf true e g) (Sections.graph_in Sdf name true e) (Rules.graph_in Sdf name true e) (Found.graph_in Sdf name true e)) (λ g h. h.1 h.0.1)
+    (both (Keeps true) (λ g. (IsTrue true → IsTimed g) → IsGraph Sdf true e g) (Sections.graph_in Sdf name true e) (TablesKeepRules.graph_in Sdf name true e) (ReadTreesAreSpelled.graph_in Sdf name true e)) (λ g h. h.1 h.0.1)
 
 scenario_of : (done : List ScenarioRow) (e : Node) → IfOk (files.scenario_of done e) (λ s. IsScenario e s × Related ScenariosDiffer (Counted 0 64) done s)
 unfolding files.scenario_of

@@ -15,7 +15,7 @@ use Rattle.file_text.specs.Grammar.{Each}
 use Rattle.graph_reader.specs.Spelled.{EachTwo}
 use Rattle.graph_reader.proofs.ReaderSteps.{then, weaker}
 use Rattle.graph_reader.proofs.NumberLists.{not-zero}
-use Rattle.graph_reader.proofs.Found.{NamesDiffer}
+use Rattle.graph_reader.proofs.ReadTreesAreSpelled.{NamesDiffer}
 use Rattle.scenario_reader.specs.ScenarioSections as files
 use Rattle.scenario_reader.specs.ScenarioSpelled.{HasRow, AreAmong, AreSame}
 

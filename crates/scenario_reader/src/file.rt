@@ -74,7 +74,7 @@ fn read_section(alloc: Global, section: &Element) -> Result<ScenarioFile, ReadEr
 
 /// The file of the elements inside a root element.
 #[tactic(auto, unfolding(crate::specs::ScenarioSections::file_of))]
-pub fn read_file(alloc: Global, root: &Element) -> Result<ScenarioFile, ReadError>
+pub(crate) fn read_file(alloc: Global, root: &Element) -> Result<ScenarioFile, ReadError>
     ensures { Gives (λ f. f) result (file_of (tree_of root.now)) }
 {
     test_root(alloc, root)?;

@@ -90,7 +90,7 @@ fn all_share(
 
 /// The shared channels: those of the first scenario, which all others have.
 #[tactic(auto, unfolding(crate::specs::ScenarioSections::shared_of))]
-pub fn read_shared(alloc: Global, scenarios: &[ScenarioRow]) -> Result<Rows<SharedRow>, ReadError>
+pub(crate) fn read_shared(alloc: Global, scenarios: &[ScenarioRow]) -> Result<Rows<SharedRow>, ReadError>
     ensures { Gives (λ rows. rows) result (shared_of scenarios.now) }
 {
     let [first, rest @ ..] = scenarios else {
@@ -102,7 +102,7 @@ pub fn read_shared(alloc: Global, scenarios: &[ScenarioRow]) -> Result<Rows<Shar
 }
 
 /// How many tokens are shared; one more than a timed graph may have nodes stands for more.
-pub fn count_shared(shared: &[SharedRow]) -> u64
+pub(crate) fn count_shared(shared: &[SharedRow]) -> u64
     ensures { result ≡ min (shared_count shared.now) (NODES + 1) }
 {
     let mut count: u64 = 0;

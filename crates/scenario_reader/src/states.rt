@@ -19,8 +19,9 @@ use std::alloc::Global;
 
 /// A state before its successors are read.
 #[derive(Drop)]
-pub struct State {
+pub(crate) struct State {
     pub name: Text,
+    /// The number of its scenario.
     pub scenario: u32,
 }
 
@@ -33,7 +34,7 @@ impl Named for State {
 }
 
 /// The number of the row that is named.
-pub fn number_named<R: Named>(
+pub(crate) fn number_named<R: Named>(
     alloc: Global,
     what: Field,
     rows: &Register<R>,
@@ -75,7 +76,7 @@ fn read_state(
 
 /// The states of an automaton, of which there is one at least.
 #[tactic(auto, unfolding(crate::specs::ScenarioSections::states_of, graph_reader::specs::TreeSteps::children))]
-pub fn read_states(
+pub(crate) fn read_states(
     alloc: Global,
     scenarios: &Register<ScenarioRow>,
     fsm: &Element,
@@ -99,7 +100,7 @@ pub fn read_states(
 
 /// The state in which each path begins.
 #[tactic(auto, unfolding(crate::specs::ScenarioSections::initial_of))]
-pub fn read_initial(
+pub(crate) fn read_initial(
     alloc: Global,
     states: &Register<State>,
     fsm: &Element,

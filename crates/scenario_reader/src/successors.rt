@@ -84,7 +84,7 @@ fn read_row(
 
 /// The rows of all states, each with its successors.
 #[tactic(auto, unfolding(crate::specs::ScenarioSections::state_rows, graph_reader::specs::TreeSteps::children))]
-pub fn read_rows(
+pub(crate) fn read_rows(
     alloc: Global,
     states: &Register<State>,
     fsm: &Element,

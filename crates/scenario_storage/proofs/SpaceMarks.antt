@@ -4,7 +4,7 @@ use Rattle.std.specs.Prelude.{◌↔◌, replicate, slice_index_or}
 use Rattle.std.proofs.lemmas.Bool.{true≢false}
 use Rattle.std.proofs.lemmas.Option.{slice_get_within}
 use Rattle.sd_base.specs.declared.tables.ScenarioFile.{ScenarioFile}
-use Rattle.sd_base.proofs.Lists.{replicate-same}
+use Rattle.sd_base.proofs.ElementsKeepPlaces.{replicate-same}
 use Rattle.token_matrix.specs.Stamps.{first_of}
 use Rattle.entry_ways.specs.declared.marking.EntryPlace.{EntryPlace}
 use Rattle.entry_ways.specs.WayMarks.{AreWayMarks, IsOnSome}

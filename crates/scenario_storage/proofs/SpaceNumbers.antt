@@ -13,7 +13,7 @@ use Rattle.storage.specs.Distributions.{capacity_at}
 use Rattle.bounded_scenarios.specs.BoundedFiles.{space_name, space_row, space_rows}
 use Rattle.bounded_scenarios.specs.ScenarioGuides.{IsSpaceFor}
 use Rattle.bounded_scenarios.specs.SharedChannels.{channel_named}
-use Rattle.bounded_scenarios.proofs.Lists.{at-either, at-right}
+use Rattle.bounded_scenarios.proofs.JoinedListsSplit.{at-either, at-right}
 use Rattle.bounded_scenarios.proofs.NamedChannels.{named-is}
 use Rattle.scenario_storage.specs.inside.Shown.{HasSpace, spaces_from}
 

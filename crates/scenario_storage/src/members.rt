@@ -15,7 +15,7 @@ use crate::error::ScenarioStorageError;
 use crate::level::Answered;
 use crate::plan::Plan;
 use crate::point::ScenarioPoint;
-use crate::rated::{Evidence, RateError, Rated};
+use crate::rated::{RateError, Rated, Witness};
 use crate::rising::take_point;
 use crate::search::Search;
 use sd_base::{Fraction, NoMemory};
@@ -109,7 +109,7 @@ fn is_topped(so_far: bool, rated: &Rated) -> bool
     so_far || (rated.enlarge.is_empty() && rated.rate.num > 0)
 }
 
-/// Takes in the point of a distribution, if its evidence was kept.
+/// Takes in the point of a distribution, if its witness was kept.
 fn offer(
     total: u64,
     capacities: Distribution,
@@ -124,28 +124,28 @@ fn offer(
     let Rated {
         rate,
         enlarge: _,
-        evidence,
+        witness,
     } = rated;
-    match evidence {
-        Some(evidence) => take_point(point_of(total, rate, capacities, evidence), points),
+    match witness {
+        Some(witness) => take_point(point_of(total, rate, capacities, witness), points),
         None => Ok(()),
     }
 }
 
-/// A point with its evidence.
+/// A point with its witness.
 fn point_of(
     total: u64,
     rate: Fraction,
     capacities: Distribution,
-    evidence: Evidence,
+    witness: Witness,
 ) -> ScenarioPoint
-    ensures { IsPointWith total rate capacities evidence result }
+    ensures { IsPointWith total rate capacities witness result }
 {
-    let Evidence {
+    let Witness {
         shared,
         graph,
         worst,
-    } = evidence;
+    } = witness;
     ScenarioPoint {
         total,
         rate,

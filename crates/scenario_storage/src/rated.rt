@@ -14,13 +14,13 @@ use std::alloc::{AllocError, AllocFailed};
 pub(crate) struct Rated {
     pub(crate) rate: Fraction,
     pub(crate) enlarge: Rows<u32>,
-    pub(crate) evidence: Option<Evidence>,
+    pub(crate) witness: Option<Witness>,
 }
 
 /// What shows the worst rate of a distribution: the shared rows and the timed graph of the bounded file, and the answer
 /// on that graph.
 #[derive(Drop)]
-pub(crate) struct Evidence {
+pub(crate) struct Witness {
     pub(crate) shared: Rows<SharedRow>,
     pub(crate) graph: TimedGraph,
     pub(crate) worst: Worst,
@@ -59,11 +59,11 @@ impl<T: Drop> From<AllocFailed<T>> for RateError {
 }
 
 /// What shows a rate, if that is above another.
-pub(crate) fn if_above(evidence: Evidence, rate: Fraction, best: Fraction) -> Option<Evidence>
-    ensures { MatchOption result (rate.num * best.den ≤ best.num * rate.den) (λ e. e ≡ evidence) }
+pub(crate) fn if_above(witness: Witness, rate: Fraction, best: Fraction) -> Option<Witness>
+    ensures { MatchOption result (rate.num * best.den ≤ best.num * rate.den) (λ e. e ≡ witness) }
 {
     if is_slower(best, rate) {
-        Some(evidence)
+        Some(witness)
     } else {
         None
     }

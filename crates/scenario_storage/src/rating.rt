@@ -7,7 +7,7 @@ ghost use Rattle.scenario_storage.specs.inside.Levels.{IsRatingAnswer, IsPlan, I
 ghost use Rattle.scenario_storage.specs.inside.Ratings.{AreKeptMatrices, IsBlockedAt, IsGraphOf, IsMatrixAnswer, IsMeasured, RunBefore};
 
 use crate::plan::Plan;
-use crate::rated::{Evidence, RateError, Rated, if_above};
+use crate::rated::{RateError, Rated, Witness, if_above};
 use crate::scenario::{gamma_at, graph_at};
 use crate::shown::{shown_by_counts, shown_by_cycle};
 use automaton::{GraphError, TimedGraph, needed, product};
@@ -117,7 +117,7 @@ fn rate_blocked(
     Ok(Rated {
         rate: Fraction::new(0, 1),
         enlarge,
-        evidence: None,
+        witness: None,
     })
 }
 
@@ -147,7 +147,7 @@ fn rate_live(
         states: _,
         initial: _,
     } = bounded;
-    let evidence = Evidence {
+    let witness = Witness {
         shared,
         graph,
         worst,
@@ -155,7 +155,7 @@ fn rate_live(
     Ok(Rated {
         rate,
         enlarge,
-        evidence: if_above(evidence, rate, best),
+        witness: if_above(witness, rate, best),
     })
 }
 

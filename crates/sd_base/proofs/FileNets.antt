@@ -12,9 +12,9 @@ use Rattle.sd_base.specs.Tables.{phases_of, ActorKeepsRules, ChannelKeepsRules, 
 use Rattle.sd_base.specs.Net.{Channel, nowhere, channel_at, total, Balances, file_channel, file_channels_from, file_channels, IsRepetitionOf}
 use Rattle.sd_base.specs.Lawful.{is_file_channel, is_token_role, is_own, Lawful}
 use Rattle.sd_base.specs.FileNet.{own_channel, gets_own, own_channels_from, net_of}
-use Rattle.sd_base.proofs.Sums.{total-turn}
-use Rattle.sd_base.proofs.Parts.{all_one-total}
-use Rattle.sd_base.proofs.Lists.{ones-all}
+use Rattle.sd_base.proofs.SumsRepeatByTurns.{total-turn}
+use Rattle.sd_base.proofs.LawfulIsRegular.{all_one-total}
+use Rattle.sd_base.proofs.ElementsKeepPlaces.{ones-all}
 
 -- ---- lists of ones
 

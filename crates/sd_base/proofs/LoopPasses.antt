@@ -8,11 +8,11 @@ use Rattle.sd_base.specs.SelfTimed.{earliest}
 use Rattle.sd_base.specs.Lawful.{Lawful}
 use Rattle.sd_base.specs.Rates.{IsLoopTable}
 use Rattle.sd_base.specs.Futures.{Repeats}
-use Rattle.sd_base.proofs.Parts.{regular, wired, balanced}
-use Rattle.sd_base.proofs.Admissibles.{is_actor}
-use Rattle.sd_base.proofs.Counts.{early_at}
-use Rattle.sd_base.proofs.Rounds.{Whole, whole-times, whole-rounds, time-shift}
-use Rattle.sd_base.proofs.Tight.{earliest-within}
+use Rattle.sd_base.proofs.LawfulIsRegular.{regular, wired, balanced}
+use Rattle.sd_base.proofs.FiringsKeepOrder.{is_actor}
+use Rattle.sd_base.proofs.EndsDecideCounts.{early_at}
+use Rattle.sd_base.proofs.RoundsKeepTokens.{Whole, whole-times, whole-rounds, time-shift}
+use Rattle.sd_base.proofs.StartsMeetEnds.{earliest-within}
 use Rattle.sd_base.proofs.LoopRates.{table-repeats}
 
 module _ (net : Net) (laws : Lawful net) (inputs : HasInputs net) (entry period rounds : ℕ) (before : List ℕ) (starts : List (List ℕ))

@@ -11,13 +11,13 @@ use Rattle.sd_base.specs.SelfTimed.{earliest}
 use Rattle.sd_base.specs.Lawful.{Lawful}
 use Rattle.sd_base.specs.Rates.{IsLoopTable, RateBy, Rate}
 use Rattle.sd_base.specs.Futures.{Repeats}
-use Rattle.sd_base.proofs.Parts.{Regular, regular, balanced}
-use Rattle.sd_base.proofs.Ends.{sum_to}
-use Rattle.sd_base.proofs.Counts.{early_at, past_none}
-use Rattle.sd_base.proofs.Alike.{count-rises, since-then, equal-futures}
-use Rattle.sd_base.proofs.Returns.{repeats-by}
-use Rattle.sd_base.proofs.Divisors.{same_fraction}
-use Rattle.sd_base.proofs.Lists.{count-cons}
+use Rattle.sd_base.proofs.LawfulIsRegular.{Regular, regular, balanced}
+use Rattle.sd_base.proofs.FiringOrdersEnd.{sum_to}
+use Rattle.sd_base.proofs.EndsDecideCounts.{early_at, past_none}
+use Rattle.sd_base.proofs.EqualShapesRepeat.{count-rises, since-then, equal-futures}
+use Rattle.sd_base.proofs.LoopsSpanRounds.{repeats-by}
+use Rattle.sd_base.proofs.LeastMultiplesDivide.{same_fraction}
+use Rattle.sd_base.proofs.ElementsKeepPlaces.{count-cons}
 
 -- a count that rises by r in each p keeps near the line of slope r/p
 module _ (n : ℕ → ℕ) (e p r b : ℕ) (some : 0 < p) (rises : (x y : ℕ) → x ≤ y → n x ≤ n y) (turns : (t : ℕ) → e < t → n (t + p) ≡ n t + r)

@@ -62,12 +62,14 @@ impl Fraction {
         }
     }
 
+    /// The numerator: of a rate, the rounds.
     pub fn num(&self) -> u64
         ensures { result ≡ self.now.num }
     {
         self.num
     }
 
+    /// The denominator, which is not 0: of a rate, the time units.
     pub fn den(&self) -> u64
         ensures { result ≡ self.now.den }
     {
@@ -83,6 +85,7 @@ impl Fraction {
         left.cmp(&right)
     }
 
+    /// Whether it is 0/1.
     pub fn is_zero(&self) -> bool
         ensures { result ≡ (self.now.num == 0) }
     {

@@ -49,6 +49,7 @@ impl<T: Hash> Hash for Rows<T> {
 }
 
 impl<T> Rows<T> {
+    /// No elements, without memory.
     pub fn new(alloc: Global) -> Rows<T>
         ensures { result ≡ [] }
     {
@@ -72,6 +73,7 @@ impl<T> Rows<T> {
         items
     }
 
+    /// Puts an element last. Where there is no memory for it, the list stays as it was.
     pub fn push(&mut self, item: T) -> Result<(), AllocFailed<T>>
         ensures ok { OnOk result (self.new ≡ self.old ++ item ∷ []) }
         ensures err { OnErr result (self.new ≡ self.old) }
@@ -79,18 +81,21 @@ impl<T> Rows<T> {
         self.items.push(item)
     }
 
+    /// How many elements there are.
     pub fn len(&self) -> usize
         ensures { result ≡ length self.now }
     {
         self.items.len()
     }
 
+    /// Whether there are no elements.
     pub fn is_empty(&self) -> bool
         ensures { result ≡ (length self.now == 0) }
     {
         self.items.is_empty()
     }
 
+    /// The elements in order, without a copy.
     pub fn as_slice(&self) -> &[T]
         ensures { result.now ≡ self.now }
     {

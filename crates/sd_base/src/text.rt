@@ -76,6 +76,7 @@ impl Text {
         }
     }
 
+    /// The characters, without a copy.
     pub fn as_str(&self) -> &str
         ensures { result.now ≡ self.now }
     {

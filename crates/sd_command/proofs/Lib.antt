@@ -1,2 +1,2 @@
 pub mod command_lemmas
-mod Shown
+mod RunsShowWhatIsSent

@@ -1,3 +1,4 @@
 pub mod Goings
+pub mod MadeCertificates
 pub mod PointTasks
 pub mod Wants

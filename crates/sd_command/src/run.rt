@@ -1,5 +1,7 @@
-ghost use Rattle.std.specs.Prelude.{◌≡◌, ◌≤◌, Bool};
+ghost use Rattle.std.specs.Prelude.{◌≡◌, ◌-◌, ◌≤◌, Bool};
 ghost use Rattle.sd_steps.specs.RunEndings.{Outside};
+ghost use Rattle.sd_steps.specs.Takings.{Files};
+ghost use Rattle.sd_command.specs.Entrances.{course_entered};
 ghost use Rattle.sd_command.specs.Runs.{Run, Shows, ShowsBy};
 
 use crate::requests::answer_of;
@@ -11,7 +13,7 @@ use sd_steps::delivering::{deliver, send_stop};
 use std::alloc::Global;
 use std::thread::Threads;
 
-/// Carries one command out: `words` are those after the program's name. The answer goes to `out`, the line of a
+/// Carries one command out: `words` are what follows the program's name. The answer goes to `out`, the line of a
 /// refusal to `err`. All texts are made before anything is put or sent. The runtime and the gate are for the commands that
 /// fork; `steps` counts the executions that were run round their loop.
 pub fn analyse<R: Threads + Sync, S: Shelf, K: Sink, G: Gate + Sync, L: Ledger + Send>(
@@ -40,6 +42,8 @@ pub fn analyse<R: Threads + Sync, S: Shelf, K: Sink, G: Gate + Sync, L: Ledger +
       executions = steps.old.count;
       executions_after = steps.new.count;
     } in (cut : Bool) × Shows run cut }
+    ensures entered { let files : Files = record { tells = S.tells shelf.old; named = S.file shelf.old } in
+        result ≡ Status.Done → course_entered words.now files (G.entered gate.now) (steps.new.count - steps.old.count) }
     ensures shelf_grows { S.faults shelf.old ≤ S.faults shelf.new }
     ensures out_grows { K.faults out.old ≤ K.faults out.new }
     ensures err_grows { K.faults err.old ≤ K.faults err.new }
@@ -72,6 +76,8 @@ pub fn exit_code<R: Threads + Sync, S: Shelf, K: Sink, G: Gate + Sync, L: Ledger
       out = record { sent = K.sent out.old; sent_after = K.sent out.new; faults = K.faults out.old; faults_after = K.faults out.new };
       err = record { sent = K.sent err.old; sent_after = K.sent err.new; faults = K.faults err.old; faults_after = K.faults err.new };
     } in ShowsBy result words.now outside steps.old.count steps.new.count }
+    ensures entered { let files : Files = record { tells = S.tells shelf.old; named = S.file shelf.old } in
+        result ≡ 0 → course_entered words.now files (G.entered gate.now) (steps.new.count - steps.old.count) }
     ensures shelf_grows { S.faults shelf.old ≤ S.faults shelf.new }
     ensures out_grows { K.faults out.old ≤ K.faults out.new }
     ensures err_grows { K.faults err.old ≤ K.faults err.new }

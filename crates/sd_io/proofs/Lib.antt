@@ -1,3 +1,3 @@
-mod Sent
+mod PiecesJoinToTexts
 mod FileNames
 pub mod WholeFiles

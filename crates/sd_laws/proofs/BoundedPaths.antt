@@ -22,7 +22,7 @@ use Rattle.sd_steps.specs.Readings.{opening_graph}
 use Rattle.sd_steps.specs.Takings.{Files, IsTaken}
 use Rattle.sd_laws.proofs.CommandsDecide.{Decides, IsPast, after_decides, goes_past}
 use Rattle.sd_laws.proofs.OneOrder.{OrderLaws, lawful-ordered}
-use Rattle.sd_command.proofs.command_lemmas.Bounds.{AreSmall}
+use Rattle.sd_command.proofs.command_lemmas.WordsBoundGraphs.{AreSmall}
 use Rattle.sd_laws.proofs.SharedSteps.{FileLaws, balancing_determines, bounded_net, buffering_determines, opening_determines}
 
 -- a graph was read from the file, with these capacities and this repetition vector

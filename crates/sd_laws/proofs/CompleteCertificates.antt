@@ -17,8 +17,8 @@ use Rattle.sd_command.specs.Requests.{course_of}
 use Rattle.sd_steps.specs.ScenarioSteps.{reading_scenarios, timing}
 use Rattle.sd_steps.specs.Takings.{Files, taking}
 use Rattle.sd_laws.proofs.CommandsDecide.{never_ends}
-use Rattle.sd_laws.proofs.Requested.{of_request}
-use Rattle.sd_laws.proofs.Ended.{else_is_done}
+use Rattle.sd_laws.proofs.RequestsGoOn.{of_request}
+use Rattle.sd_laws.proofs.DecidedRunsEnd.{else_is_done}
 
 -- nothing ends a check but what words and files decide
 unended_check : (version : ℕ) (c : Certificate) (bytes : List ℕ) (r : Refusal) (n : ℕ) → checked version c bytes (Ended r) n → ⊥

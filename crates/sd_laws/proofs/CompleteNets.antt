@@ -5,7 +5,7 @@ use Rattle.sd_base.specs.Net.{Net}
 use Rattle.sd_base.specs.FileNet.{net_of}
 use Rattle.storage.specs.BoundedNets.{bound}
 use Rattle.storage.specs.NamedBuffers.{Buffer, capacities_of}
-use Rattle.sd_words.proofs.Within.{asked_within}
+use Rattle.sd_words.proofs.AskedNumbersFit.{asked_within}
 use Rattle.sd_words.specs.declared.request.Request.TheVariants.{Complete, Expand}
 use Rattle.sd_words.specs.Asked.{request_of}
 use Rattle.balance.specs.Repetition.{IsRound}
@@ -22,9 +22,9 @@ use Rattle.sd_command.specs.Requests.{course_of}
 use Rattle.sd_steps.specs.Takings.{Files}
 use Rattle.sd_laws.proofs.BoundedPaths.{IsOnNet, lawful_on, on_the_net}
 use Rattle.sd_laws.proofs.CommandsDecide.{IsPast, goes_past}
-use Rattle.sd_laws.proofs.Ended.{else_is_done}
+use Rattle.sd_laws.proofs.DecidedRunsEnd.{else_is_done}
 use Rattle.sd_laws.proofs.OneRate.{unrefused}
-use Rattle.sd_laws.proofs.Requested.{of_request}
+use Rattle.sd_laws.proofs.RequestsGoOn.{of_request}
 use Rattle.sd_laws.proofs.SharedSteps.{FileLaws}
 
 module _ (words : List (List ℕ)) (shelf : Files) (tells : shelf.tells ≡ true) (name : List ℕ) (rounds : ℕ) (buffers : List Buffer) (no_overlap : Bool) (states : ℕ)

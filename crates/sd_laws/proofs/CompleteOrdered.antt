@@ -6,7 +6,7 @@ use Rattle.sd_base.specs.FileNet.{net_of}
 use Rattle.sd_base.specs.Lawful.{Lawful}
 use Rattle.storage.specs.BoundedNets.{bound}
 use Rattle.storage.specs.NamedBuffers.{Buffer, capacities_of}
-use Rattle.sd_words.proofs.Within.{asked_within}
+use Rattle.sd_words.proofs.AskedNumbersFit.{asked_within}
 use Rattle.sd_words.specs.declared.request.Request.TheVariants.{Ordered}
 use Rattle.sd_words.specs.Asked.{request_of}
 use Rattle.balance.specs.Repetition.{IsRound}
@@ -28,12 +28,12 @@ use Rattle.sd_command.specs.Requests.{course_of}
 use Rattle.sd_steps.specs.Takings.{Files}
 use Rattle.sd_laws.proofs.BoundedPaths.{IsOnNet, lawful_on, lawful_ordered_on, on_the_net}
 use Rattle.sd_laws.proofs.CommandsDecide.{IsPast, goes_past}
-use Rattle.sd_laws.proofs.Ended.{else_is_done}
+use Rattle.sd_laws.proofs.DecidedRunsEnd.{else_is_done}
 use Rattle.sd_laws.proofs.OneOrder.{OrderLaws, are-orders}
 use Rattle.sd_laws.proofs.OneRate.{unrefused}
 use Rattle.sd_command.proofs.command_lemmas.OrderedOver.{bound-can}
-use Rattle.sd_laws.proofs.Requested.{of_request}
-use Rattle.sd_command.proofs.command_lemmas.Bounds.{AreSmall}
+use Rattle.sd_laws.proofs.RequestsGoOn.{of_request}
+use Rattle.sd_command.proofs.command_lemmas.WordsBoundGraphs.{AreSmall}
 use Rattle.sd_laws.proofs.SharedSteps.{FileLaws}
 
 module _ (laws : FileLaws) (orders : OrderLaws) (words : List (List ℕ)) (shelf : Files) (tells : shelf.tells ≡ true) (name : List ℕ) (lists : NamedOrders) (buffers : List Buffer) (no_overlap : Bool) (states : ℕ)

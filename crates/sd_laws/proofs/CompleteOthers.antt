@@ -13,9 +13,9 @@ use Rattle.sd_command.specs.Requests.{course_of}
 use Rattle.sd_steps.specs.ScenarioSteps.{opening_scenarios, timing}
 use Rattle.sd_steps.specs.Takings.{Files}
 use Rattle.sd_laws.proofs.CommandsDecide.{never_ends}
-use Rattle.sd_laws.proofs.Complete.{short-enough}
-use Rattle.sd_laws.proofs.Ended.{else_is_done}
-use Rattle.sd_laws.proofs.Requested.{of_request}
+use Rattle.sd_laws.proofs.CompleteThroughput.{short-enough}
+use Rattle.sd_laws.proofs.DecidedRunsEnd.{else_is_done}
+use Rattle.sd_laws.proofs.RequestsGoOn.{of_request}
 
 module _ (words : List (List ℕ)) (shelf : Files) (name : List ℕ) (r : Refusal) (n : ℕ) where
   repetition_never_ends : request_of words ≡ Ok (Repetition name) → course_of words shelf (Ended r) n → ⊥

@@ -15,8 +15,8 @@ use Rattle.sd_command.specs.commands.ScenarioPoints.{IsSearchEnd, edges, distrib
 use Rattle.sd_steps.specs.Takings.{Files}
 use Rattle.sd_laws.specs.Endings.{ScenarioStorageIsComplete, SearchSuffices}
 use Rattle.sd_laws.proofs.CommandsDecide.{never_ends}
-use Rattle.sd_laws.proofs.Ended.{else_is_done}
-use Rattle.sd_laws.proofs.Requested.{of_request}
+use Rattle.sd_laws.proofs.DecidedRunsEnd.{else_is_done}
+use Rattle.sd_laws.proofs.RequestsGoOn.{of_request}
 
 -- where the limits are enough, no search is ended by them
 unspent : (file : ScenarioFile) (limits : ScenarioLimits) → SearchSuffices file limits → (r : Refusal) → IsSearchEnd file limits r → ⊥

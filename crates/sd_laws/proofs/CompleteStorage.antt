@@ -7,8 +7,8 @@ use Rattle.sd_base.specs.FileNet.{net_of}
 use Rattle.storage.proofs.FileChannels.{file-plain}
 use Rattle.explore.specs.Explorations.{CountsFew}
 use Rattle.explore.specs.Reachable.{IsExplorable}
-use Rattle.explore.proofs.Explorable.{touched-explorable}
-use Rattle.sd_words.proofs.Within.{asked_within}
+use Rattle.explore.proofs.IncidentNetsExplorable.{incident-explorable}
+use Rattle.sd_words.proofs.AskedNumbersFit.{asked_within}
 use Rattle.sd_words.specs.declared.request.Request.TheVariants.{Storage}
 use Rattle.sd_words.specs.Asked.{request_of}
 use Rattle.graph_reader.specs.Laws as files
@@ -18,18 +18,18 @@ use Rattle.sd_steps.specs.Courses.{Ended}
 use Rattle.sd_steps.specs.Takings.{Files}
 use Rattle.sd_steps.specs.Readings.{opening_graph}
 use Rattle.sd_steps.specs.Balancings.{balancing}
-use Rattle.sd_steps.specs.Nets.{touching, completing}
+use Rattle.sd_steps.specs.Nets.{testing_incident, completing}
 use Rattle.sd_command.specs.Requests.{course_of}
 use Rattle.sd_laws.specs.Endings.{PointCertificatesFit, StorageIsComplete, Suffice}
 use Rattle.sd_command.specs.commands.Points.{ArePointsTooLong, IsPointsEnd}
 use Rattle.sd_command.specs.declared.commands.wanted.WantedPoints.{WantedPoints}
 use Rattle.sd_laws.proofs.CommandsDecide.{never_ends}
 use Rattle.storage.proofs.FileConnections.{file-connected, file-few}
-use Rattle.sd_laws.proofs.Complete.{short-enough}
-use Rattle.sd_laws.proofs.Requested.{of_request}
+use Rattle.sd_laws.proofs.CompleteThroughput.{short-enough}
+use Rattle.sd_laws.proofs.RequestsGoOn.{of_request}
 use Rattle.sd_laws.proofs.OneTradeOff.{unspent}
 use Rattle.sd_laws.proofs.SharedSteps.{FileLaws, lawful_net}
-use Rattle.sd_laws.proofs.Ended.{else_is_done}
+use Rattle.sd_laws.proofs.DecidedRunsEnd.{else_is_done}
 
 module _ (laws : FileLaws) (words : List (List ℕ)) (shelf : Files) (tells : shelf.tells ≡ true) (name : List ℕ) (limits : Limits) (no_overlap : Bool) (certificate : Option (List ℕ)) (asked : request_of words ≡ Ok (Storage name limits no_overlap certificate)) where
   abbrev wanted : WantedPoints
@@ -41,10 +41,10 @@ module _ (laws : FileLaws) (words : List (List ℕ)) (shelf : Files) (tells : sh
   unended enough r n ended =
       never_ends (opening_graph shelf name true) _ r n (λ graph opened.
       never_ends (balancing graph) _ r n (λ gamma round.
-      never_ends (touching graph (net_of graph gamma no_overlap)) _ r n (λ a touched.
+      never_ends (testing_incident graph (net_of graph gamma no_overlap)) _ r n (λ an incident.
       never_ends (completing graph (net_of graph gamma no_overlap)) _ r n (λ b live end.
       let net : Net = net_of graph gamma no_overlap in
-      let can : IsExplorable net = touched-explorable net (file-plain graph gamma no_overlap) (file-connected graph gamma no_overlap round.balanced.connected) touched (file-few graph gamma no_overlap (laws.keeps opened.0 true graph opened.2)) in
+      let can : IsExplorable net = incident-explorable net (file-plain graph gamma no_overlap) (file-connected graph gamma no_overlap round.balanced.connected) incident (file-few graph gamma no_overlap (laws.keeps opened.0 true graph opened.2)) in
       let fit = enough opened.0 gamma graph (opened.1.told tells) opened.2 round in
       ⊎_elim
       (λ (spent : CountsFew net limits 0 n × IsPointsEnd graph net limits r).

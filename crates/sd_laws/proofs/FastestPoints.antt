@@ -14,7 +14,7 @@ use Rattle.explore.specs.Explorations.{pair_of}
 use Rattle.sd_steps.specs.declared.answer.Answer.{Answer}
 use Rattle.sd_steps.specs.Balancings.{balancing}
 use Rattle.sd_steps.specs.Courses.{Answered}
-use Rattle.sd_steps.specs.Nets.{completing, touching}
+use Rattle.sd_steps.specs.Nets.{completing, testing_incident}
 use Rattle.sd_steps.specs.Readings.{opening_graph}
 use Rattle.sd_steps.specs.Takings.{Files}
 use Rattle.sd_command.specs.declared.commands.wanted.WantedPoints.{WantedPoints}
@@ -22,7 +22,7 @@ use Rattle.sd_command.specs.commands.Points.{IsPointsAnswer}
 use Rattle.sd_command.specs.Requests.{course_of}
 use Rattle.sd_laws.specs.FastestPoints.{FastestPointsAreLast, ShowsPoints}
 use Rattle.sd_laws.proofs.CommandsDecide.{goes_past}
-use Rattle.sd_laws.proofs.Requested.{of_request}
+use Rattle.sd_laws.proofs.RequestsGoOn.{of_request}
 
 -- the points of a net up to the greatest rate of all are those of each greater limit
 abbrev pub AllToTheGreatest : Type 0
@@ -41,8 +41,8 @@ module _ (all : AllToTheGreatest) (words : List (List ℕ)) (files : Files) (tel
       let graph : GraphFile = opened.0 in
       let balance = goes_past (balancing graph) _ (Answered answer) n tt opened.2 in
       let net : Net = net_of graph balance.0 no_overlap in
-      let touch = goes_past (touching graph net) _ (Answered answer) n tt balance.2 in
-      let complete = goes_past (completing graph net) _ (Answered answer) n tt touch.2 in
+      let test_incident = goes_past (testing_incident graph net) _ (Answered answer) n tt balance.2 in
+      let complete = goes_past (completing graph net) _ (Answered answer) n tt test_incident.2 in
       let told : IsPointsAnswer graph net wanted answer n = complete.2 in
       record {
         bytes = opened.1.0;

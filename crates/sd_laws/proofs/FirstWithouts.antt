@@ -4,7 +4,7 @@ use Rattle.std.proofs.lemmas.Bool.{cases_lt}
 use Rattle.std.specs.Prelude.{slice_get}
 use Rattle.sd_base.specs.declared.tables.ScenarioFile.{ScenarioFile}
 use Rattle.sd_base.specs.declared.tables.ScenarioRow.{ScenarioRow}
-use Rattle.sd_base.proofs.Truths.{one-some}
+use Rattle.sd_base.proofs.ByteTestsDecide.{one-some}
 use Rattle.report.specs.declared.refusal.Refusal.{Refusal}
 use Rattle.sd_steps.specs.Courses.{Step}
 use Rattle.sd_steps.specs.ScenarioSteps.{IsFirstWithout}

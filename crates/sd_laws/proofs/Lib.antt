@@ -1,15 +1,15 @@
-mod Commands
+mod WordsDecideCommands
 mod CompleteCertificates
 mod CompleteOthers
 mod OneRate
-mod Ended
-mod Requested
+mod DecidedRunsEnd
+mod RequestsGoOn
 mod OneOrder
-mod Expanding
+mod OneExpansion
 mod BoundedPaths
 mod CompleteNets
 mod CompleteOrdered
-mod Complete
+mod CompleteThroughput
 mod OneTradeOff
 mod CompleteStorage
 mod ValidPuts
@@ -25,5 +25,5 @@ mod OneWorst
 mod OneScenarioStorage
 mod CompleteScenarioStorage
 mod CertificatesDecide
-mod SummariesDecide
+mod WordsDecideGenerate
 mod ReadExpansions

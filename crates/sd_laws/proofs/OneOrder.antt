@@ -12,7 +12,7 @@ use Rattle.sd_base.specs.Limits.{greatest_of}
 use Rattle.sd_base.specs.Net.{Net}
 use Rattle.sd_base.specs.Rates.{Rate}
 use Rattle.sd_base.specs.Tables.{KeepsRules}
-use Rattle.sd_base.proofs.Truths.{one-some, some-none}
+use Rattle.sd_base.proofs.ByteTestsDecide.{one-some, some-none}
 use Rattle.escapes.specs.EscapedNames.{escaped_name}
 use Rattle.storage.specs.BoundedNets.{bound}
 use Rattle.ordered.specs.declared.orders.OrderError.{OrderError}

@@ -29,7 +29,7 @@ use Rattle.sd_steps.specs.Nets.{IsFed, joining, feeding, completing, on_live, te
 use Rattle.sd_steps.specs.Findings.{IsRunRefusal, states_spent, too_many_starts}
 use Rattle.sd_command.specs.commands.Rates.{execution}
 use Rattle.sd_laws.specs.Endings.{Repeats}
-use Rattle.sd_steps.proofs.Joins.{fed-inputs}
+use Rattle.sd_steps.proofs.PathsConnectNets.{fed-inputs}
 use Rattle.sd_laws.proofs.CommandsDecide.{Determines, Decides, DecidesLast, after_decides, last_decides, through_determines}
 
 -- what is known of nets: ending counts are one, no counts block a live net, and an execution has one ending

@@ -6,14 +6,14 @@ use Rattle.sd_base.specs.declared.limits.TheConstants.{STORAGE}
 use Rattle.sd_base.specs.Net.{Net}
 use Rattle.sd_base.specs.Lawful.{Lawful}
 use Rattle.storage.specs.BoundedNets.{bound}
-use Rattle.storage.specs.TouchedActors.{IsTouched}
+use Rattle.storage.specs.IncidentActors.{IsIncident}
 use Rattle.explore.specs.Reachable.{IsExplorable}
-use Rattle.explore.proofs.Explorable.{reachable-fits}
+use Rattle.explore.proofs.IncidentNetsExplorable.{reachable-fits}
 use Rattle.report.specs.declared.refusal.Refusal.{Refusal}
 use Rattle.report.specs.declared.refusal.Refusal.TheVariants.{NoInput}
 use Rattle.sd_command.specs.declared.commands.wanted.WantedPoints.{WantedPoints}
 use Rattle.sd_steps.specs.ActorNames.{actor_shown}
-use Rattle.sd_steps.specs.Nets.{touching, completing}
+use Rattle.sd_steps.specs.Nets.{testing_incident, completing}
 use Rattle.sd_command.specs.commands.Points.{IsPointsEnd, states_spent, too_many_starts, distributions_spent, points_of, points_search}
 use Rattle.sd_laws.specs.Endings.{Suffice}
 use Rattle.sd_laws.proofs.CommandsDecide.{Determines, Decides, DecidesLast, after_decides, last_decides}
@@ -21,12 +21,12 @@ use Rattle.sd_laws.proofs.OneRate.{NetLaws, completing_determines, one-least}
 use Rattle.sd_command.proofs.command_lemmas.PointSchedules.{fits-lawful}
 
 module _ (graph : GraphFile) (net : Net) where
-  pub touching_determines : Determines (touching graph net)
-  touching_determines = record {
+  pub testing_incident_determines : Determines (testing_incident graph net)
+  testing_incident_determines = record {
     one = λ a b is also. refl;
     refusal = λ r s is also.
-        is.told ∙ ap (λ (x : ℕ). NoInput None (actor_shown graph x)) (one-least (IsTouched net) is.actor also.actor is.is.none also.is.none is.is.first also.is.first) ∙ sym also.told;
-    never = λ r a is touched. is.is.none (touched is.actor is.is.place);
+        is.told ∙ ap (λ (x : ℕ). NoInput None (actor_shown graph x)) (one-least (IsIncident net) is.actor also.actor is.is.none also.is.none is.is.first also.is.first) ∙ sym also.told;
+    never = λ r a is incident. is.is.none (incident is.actor is.is.place);
   }
 
   search_decides : (wanted : WantedPoints) → DecidesLast (points_search graph net wanted)
@@ -39,7 +39,7 @@ module _ (graph : GraphFile) (net : Net) where
   module _ (facts : NetLaws) (laws : Lawful net) where
     pub points_decide : (wanted : WantedPoints) → Decides (points_of graph net wanted)
     points_decide wanted =
-        after_decides (touching graph net) _ touching_determines (λ a touched.
+        after_decides (testing_incident graph net) _ testing_incident_determines (λ an incident.
         after_decides (completing graph net) _ (completing_determines facts net laws graph) (λ b live.
         last_decides (points_search graph net wanted) (search_decides wanted)))
 

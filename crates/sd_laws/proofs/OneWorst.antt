@@ -9,7 +9,7 @@ use Rattle.sd_base.specs.Tables.{KeepsRules, IsTimed}
 use Rattle.sd_base.specs.Scenarios.{FileKeepsRules, ScenarioKeepsRules}
 use Rattle.sd_base.specs.FileNet.{net_of}
 use Rattle.sd_base.specs.Lawful.{Lawful}
-use Rattle.sd_base.proofs.Lists.{get-there}
+use Rattle.sd_base.proofs.ElementsKeepPlaces.{get-there}
 use Rattle.graph_reader.specs.declared.error.ReadError.{ReadError}
 use Rattle.scenario_reader.specs.ScenarioFiles.{HasOneFile, HasOneFileFault, ReadFileHasNoFault, ReadFileKeepsRules}
 use Rattle.token_matrix.specs.Matrices.{IsMatrix}

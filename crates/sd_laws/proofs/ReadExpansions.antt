@@ -19,8 +19,8 @@ use Rattle.sd_base.specs.Tables.{KeepsRules}
 use Rattle.sd_base.specs.Net.{Net}
 use Rattle.sd_base.specs.FileNet.{net_of}
 use Rattle.sd_base.specs.Lawful.{Lawful}
-use Rattle.sd_base.proofs.Parts.{wired, balanced}
-use Rattle.sd_base.proofs.Lists.{entry-le-sum}
+use Rattle.sd_base.proofs.LawfulIsRegular.{wired, balanced}
+use Rattle.sd_base.proofs.ElementsKeepPlaces.{entry-le-sum}
 use Rattle.file_text.specs.Grammar.{is_character}
 use Rattle.graph_reader.specs.Laws.{Gives, ReadIsWritable}
 use Rattle.graph_reader.specs.WritableNames.{HasWritableNames, IsWritableName}
@@ -38,9 +38,9 @@ use Rattle.single_rate.specs.Expansions.{copy_name, copy_row, copy_rows, expansi
 use Rattle.single_rate.specs.Firings.{no_link}
 use Rattle.single_rate.specs.Limits.{excess, has_long_name}
 use Rattle.single_rate.proofs.CopyNames.{copies-differ, excess-tells, links-differ}
-use Rattle.single_rate.proofs.Expanded.{length-rows, row-of, rows-at}
-use Rattle.single_rate.proofs.Tables.{table-keeps, table-timed}
-use Rattle.sd_words.proofs.Within.{asked_within}
+use Rattle.single_rate.proofs.ExpansionsUnroll.{length-rows, row-of, rows-at}
+use Rattle.single_rate.proofs.ExpansionsKeepRules.{table-keeps, table-timed}
+use Rattle.sd_words.proofs.AskedNumbersFit.{asked_within}
 use Rattle.sd_words.specs.declared.request.Request.TheVariants.{Expand}
 use Rattle.sd_words.specs.Asked.{request_of}
 use Rattle.sd_steps.specs.declared.answer.Answer.{Answer}
@@ -51,8 +51,8 @@ use Rattle.sd_command.specs.Requests.{course_of}
 use Rattle.sd_steps.specs.Takings.{Files}
 use Rattle.sd_laws.proofs.BoundedPaths.{lawful_on, on_the_net}
 use Rattle.sd_laws.proofs.CommandsDecide.{goes_past}
-use Rattle.sd_laws.proofs.Requested.{of_request}
-use Rattle.sd_command.proofs.command_lemmas.Bounds.{AreSmall}
+use Rattle.sd_laws.proofs.RequestsGoOn.{of_request}
+use Rattle.sd_command.proofs.command_lemmas.WordsBoundGraphs.{AreSmall}
 use Rattle.sd_laws.proofs.SharedSteps.{FileLaws}
 
 -- ---- names

@@ -22,7 +22,7 @@ use Rattle.storage.specs.declared.distribution.Distribution.{Distribution}
 use Rattle.storage.specs.NamedBuffers.{Buffer, first_fault}
 use Rattle.storage.specs.Distributions.{CanHold}
 use Rattle.storage.specs.BoundedNets.{bound}
-use Rattle.storage.proofs.Lawfulness.{bound-lawful}
+use Rattle.storage.proofs.BoundingKeepsLaws.{bound-lawful}
 use Rattle.storage.proofs.FileChannels.{file-plain, plain-no_spaces}
 use Rattle.storage.proofs.NamedCapacities.{bounded-few, named-held}
 use Rattle.std.proofs.lemmas.List.{length-map}
@@ -31,7 +31,7 @@ use Rattle.report.specs.WalkTexts.{steps_text}
 use Rattle.sd_base.specs.Limits.{greatest_of}
 use Rattle.report.specs.QuantityWords.{quantity_text}
 use Rattle.sd_base.specs.declared.limits.Quantity.TheVariants as quantities
-use Rattle.sd_base.proofs.Truths.{one-some, some-none}
+use Rattle.sd_base.proofs.ByteTestsDecide.{one-some, some-none}
 use Rattle.sd_steps.specs.declared.file_kind.FileKind.{FileKind}
 use Rattle.sd_steps.specs.declared.file_kind.FileKind.TheVariants as kinds
 use Rattle.sd_steps.specs.ActorNames.{actor_shown}
@@ -39,7 +39,7 @@ use Rattle.sd_steps.specs.Takings.{Files, IsTaken, IsUntaken, missing, too_long,
 use Rattle.sd_steps.specs.Readings.{opening_graph, reading_graph, reading_refusal}
 use Rattle.sd_steps.specs.Balancings.{IsBalanceRefusal, apart, ratio, inconsistent, above, balancing}
 use Rattle.sd_steps.specs.Askings.{asking, usage_refusal}
-use Rattle.sd_command.proofs.command_lemmas.Bounds.{AreSmall}
+use Rattle.sd_command.proofs.command_lemmas.WordsBoundGraphs.{AreSmall}
 use Rattle.sd_laws.proofs.CommandsDecide.{Determines, through_determines}
 use Rattle.sd_laws.proofs.OneRate.{NetLaws}
 

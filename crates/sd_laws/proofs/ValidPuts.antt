@@ -10,7 +10,7 @@ use Rattle.sd_base.specs.declared.limits.Quantity.TheVariants as quantities
 use Rattle.sd_base.specs.Limits.{greatest_of}
 use Rattle.sd_words.specs.declared.request.Request.TheVariants.{Throughput}
 use Rattle.sd_words.specs.Asked.{request_of}
-use Rattle.sd_words.proofs.Within.{asked_within}
+use Rattle.sd_words.proofs.AskedNumbersFit.{asked_within}
 use Rattle.storage.specs.BoundedNets.{bound}
 use Rattle.storage.specs.Distributions.{CanHold}
 use Rattle.storage.specs.NamedBuffers.{Buffer, capacities_of, capacity_named}
@@ -33,8 +33,8 @@ use Rattle.sd_command.specs.commands.Throughputs.{rate_on}
 use Rattle.sd_command.specs.declared.commands.wanted.WantedRate.{WantedRate}
 use Rattle.sd_laws.proofs.BoundedPaths.{lawful_on, on_the_net}
 use Rattle.sd_laws.proofs.CommandsDecide.{goes_past}
-use Rattle.sd_steps.proofs.Joins.{fed-inputs}
-use Rattle.sd_laws.proofs.Requested.{of_request}
+use Rattle.sd_steps.proofs.PathsConnectNets.{fed-inputs}
+use Rattle.sd_laws.proofs.RequestsGoOn.{of_request}
 use Rattle.sd_laws.proofs.SharedSteps.{FileLaws}
 
 -- ---- capacities by names

@@ -9,7 +9,7 @@ use Rattle.sd_base.specs.declared.limits.Quantity.TheVariants as quantities
 use Rattle.sd_base.specs.Limits.{greatest_of}
 use Rattle.sd_words.specs.declared.request.Request.TheVariants.{Storage}
 use Rattle.sd_words.specs.Asked.{request_of}
-use Rattle.sd_words.proofs.Within.{asked_within}
+use Rattle.sd_words.proofs.AskedNumbersFit.{asked_within}
 use Rattle.periodic.specs.declared.schedule.Periodic.{Periodic}
 use Rattle.storage.proofs.FileChannels.{file-plain}
 use Rattle.storage.proofs.FileConnections.{file-connected, file-few}
@@ -23,14 +23,14 @@ use Rattle.sd_command.specs.declared.commands.wanted.WantedPoints.{WantedPoints}
 use Rattle.sd_steps.specs.Balancings.{balancing}
 use Rattle.sd_steps.specs.Certifyings.{text_of}
 use Rattle.sd_steps.specs.Courses.{Answered}
-use Rattle.sd_steps.specs.Nets.{completing, touching}
+use Rattle.sd_steps.specs.Nets.{completing, testing_incident}
 use Rattle.sd_command.specs.commands.Points.{IsPointSchedule, IsPointsAnswer}
 use Rattle.sd_laws.specs.PutCertificates.{PutsValidTradeOff, TradeOffsPutAreValid}
 use Rattle.sd_steps.specs.Readings.{opening_graph}
 use Rattle.sd_command.specs.Requests.{course_of}
 use Rattle.sd_steps.specs.Takings.{Files}
 use Rattle.sd_laws.proofs.CommandsDecide.{goes_past}
-use Rattle.sd_laws.proofs.Requested.{of_request}
+use Rattle.sd_laws.proofs.RequestsGoOn.{of_request}
 use Rattle.sd_laws.proofs.SharedSteps.{FileLaws, lawful_net}
 
 -- the schedules of loops reach their points
@@ -52,8 +52,8 @@ module _ (laws : FileLaws) (valid : TradeOffsAreValid) (words : List (List ℕ))
       let graph : GraphFile = opened.0 in
       let balance = goes_past (balancing graph) _ (Answered answer) n tt opened.2 in
       let net : Net = net_of graph balance.0 no_overlap in
-      let touch = goes_past (touching graph net) _ (Answered answer) n tt balance.2 in
-      let complete = goes_past (completing graph net) _ (Answered answer) n tt touch.2 in
+      let test_incident = goes_past (testing_incident graph net) _ (Answered answer) n tt balance.2 in
+      let complete = goes_past (completing graph net) _ (Answered answer) n tt test_incident.2 in
       let told : IsPointsAnswer graph net wanted answer n = complete.2 in
       let made = told.put.1 in
       let is : told.put.0 ≡ _ = made.is in
@@ -76,7 +76,7 @@ module _ (laws : FileLaws) (valid : TradeOffsAreValid) (words : List (List ℕ))
               connected = file-connected graph balance.0 no_overlap balance.1.balanced.connected;
               few = file-few graph balance.0 no_overlap (laws.keeps opened.1.0 true graph opened.1.2);
             })
-            touch.1 (asked_within words (Storage name limits no_overlap (Some put)) asked).total made.explored (all-reached net told.points told.schedules told.shown.reached) made.made 2;
+            test_incident.1 (asked_within words (Storage name limits no_overlap (Some put)) asked).total made.explored (all-reached net told.points told.schedules told.shown.reached) made.made 2;
       }
 
 pub trade_offs_put_are_valid : FileLaws → TradeOffsAreValid → TradeOffsPutAreValid

@@ -14,7 +14,7 @@ use Rattle.sd_laws.specs.PutCertificates.{WorstRatesPutAreValid}
 use Rattle.sd_steps.specs.ScenarioSteps.{opening_scenarios, timing}
 use Rattle.sd_command.specs.commands.WorstRates.{IsWorstAnswer}
 use Rattle.sd_laws.proofs.CommandsDecide.{goes_past}
-use Rattle.sd_laws.proofs.Requested.{of_request}
+use Rattle.sd_laws.proofs.RequestsGoOn.{of_request}
 
 pub worst_rates_put_are_valid : WorstRatesPutAreValid
 worst_rates_put_are_valid words files name put answer n tells asked due =

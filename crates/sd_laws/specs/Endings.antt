@@ -74,7 +74,7 @@ ElseIsDone = (run : Run) (cut : Bool) → IsFaultless run → ((refusal : Refusa
     → ((refusal : Refusal) (n : ℕ) → course_of run.words run.outside.shelf.files (Ended refusal) n → ⊥) → Shows run cut
     → (run.status ≡ statuses.Done) ⊎ (run.status ≡ statuses.Memory)
 
--- a net repeats a shape among its first `states` shapes, within the starts that are allowed
+-- a shape of a net comes again soon enough: it is among the `states` first ones, and no more firings start than are allowed
 abbrev pub Repeats : Net → ℕ → Type 0
 Repeats net states = (entry : ℕ) × (period : ℕ) × IsLoop net entry period × (events_by net (entry + period) ≤ states) × (starts_by net (entry + period) ≤ STARTS)
 

@@ -1,4 +1,4 @@
--- The rate that `ordered` shows is the greatest of all schedules that keep the orders.
+-- No schedule that keeps the orders has a greater rate than `ordered` shows.
 use Rattle.std.specs.Prelude.{◌≡◌, ℕ, Bool, true, List, Some, Ok}
 use Rattle.sd_base.specs.declared.tables.GraphFile.{GraphFile}
 use Rattle.sd_base.specs.FileNet.{net_of}

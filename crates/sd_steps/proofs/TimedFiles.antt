@@ -6,12 +6,12 @@ use Rattle.sd_base.specs.Scenarios.{FileKeepsRules, shared_count}
 use Rattle.automaton.specs.declared.graph.Edge.{Edge}
 use Rattle.automaton.specs.declared.graph.TimedGraph.{TimedGraph}
 use Rattle.automaton.specs.TimedGraphs.{AreKept, IsProduct, IsTimedGraph, edges_from}
-use Rattle.automaton.proofs.Kept.{kept-edges, kept-product, kept-same}
+use Rattle.automaton.proofs.KeptMatricesSuffice.{kept-edges, kept-product, kept-same}
 use Rattle.automaton.specs.SoundGraphs.{IsSound}
 use Rattle.sd_steps.specs.declared.stop.Stop.{Stop}
 use Rattle.sd_steps.specs.ScenarioSteps.{Entries, AreMeasured, linking}
 use Rattle.sd_steps.specs.Steps.{Does}
-use Rattle.sd_steps.proofs.Measured.{file_some, matrices}
+use Rattle.sd_steps.proofs.ScenariosAreMeasured.{file_some, matrices}
 
 module _ (file : ScenarioFile) where
   -- it is that of the file

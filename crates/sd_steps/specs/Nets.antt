@@ -7,7 +7,7 @@ use Rattle.sd_base.specs.Untimed.{IsLive}
 use Rattle.balance.specs.ConnectRefusals.{HasInput, IsConnectRefusal, IsFirstWithoutInput}
 use Rattle.balance.specs.declared.connection.ConnectError.TheVariants as connecting
 use Rattle.sd_base.specs.Untimed.{IsBlockedBy}
-use Rattle.storage.specs.TouchedActors.{AreTouched, IsFirstUntouched}
+use Rattle.storage.specs.IncidentActors.{AreIncident, IsFirstIsolated}
 use Rattle.report.specs.declared.refusal.Refusal.{Refusal}
 use Rattle.report.specs.declared.refusal.Refusal.TheVariants.{Deadlock, NoInput, OneWay}
 use Rattle.report.specs.LackTexts.{lacks_list}
@@ -39,14 +39,14 @@ abbrev pub feeding : GraphFile → Net → Step (Unit {0})
 feeding graph net = deciding (λ done. IsFed net) (λ refusal. IsUnfed graph net refusal)
 
 -- no channel begins or ends at an actor, the first such one, so it has no input, even where each channel has a free space
-pub record IsUntouched (graph : GraphFile) (net : Net) (refusal : Refusal) : Type 0 where
+pub record IsIsolated (graph : GraphFile) (net : Net) (refusal : Refusal) : Type 0 where
   pub actor : ℕ
-  pub is : IsFirstUntouched net actor
+  pub is : IsFirstIsolated net actor
   pub told : refusal ≡ NoInput None (actor_shown graph actor)
 
 -- testing that a channel begins or ends at each actor: then each has an input where each channel has a free space
-abbrev pub touching : GraphFile → Net → Step (Unit {0})
-touching graph net = deciding (λ done. AreTouched net) (λ refusal. IsUntouched graph net refusal)
+abbrev pub testing_incident : GraphFile → Net → Step (Unit {0})
+testing_incident graph net = deciding (λ done. AreIncident net) (λ refusal. IsIsolated graph net refusal)
 
 -- no round can be completed
 pub record IsDeadlocked (graph : GraphFile) (net : Net) (refusal : Refusal) : Type 0 where

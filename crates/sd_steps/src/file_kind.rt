@@ -7,8 +7,10 @@ use sd_base::Quantity;
 /// A kind of file that commands take or put.
 #[derive(Clone, Copy, Debug, PartialEq, Eq)]
 pub enum FileKind {
+    /// A graph file, or a file of scenarios.
     Graph,
     Certificate,
+    /// A file that `convert` or `expand` makes.
     Output,
 }
 

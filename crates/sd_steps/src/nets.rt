@@ -2,7 +2,7 @@ ghost use Rattle.std.specs.Prelude.{◌≡◌, IfOk};
 ghost use Rattle.report.specs.LinkTexts.{IsNamed};
 ghost use Rattle.sd_base.specs.Connection.{IsStronglyConnected, ends_of};
 ghost use Rattle.sd_base.specs.Untimed.{IsLive};
-ghost use Rattle.sd_steps.specs.Nets.{IsFed, completing, feeding, joining, testing, touching};
+ghost use Rattle.sd_steps.specs.Nets.{IsFed, completing, feeding, joining, testing, testing_incident};
 ghost use Rattle.sd_steps.specs.Steps.{Does};
 
 use crate::actor_names::name_of;
@@ -13,7 +13,7 @@ use liveness::{Ending, finish_round, no_counts};
 use report::{Refusal, lacks_text};
 use sd_base::GraphFile;
 use std::alloc::Global;
-use storage::first_untouched;
+use storage::first_isolated;
 
 /// Tests a net that is to be executed: paths lead from each actor to each, a channel into each, and a round can be completed.
 /// `graph` has the names of the net's actors and channels.
@@ -75,11 +75,11 @@ pub(crate) fn feed<F: Firing>(
 }
 
 /// Tests that a channel begins or ends at each actor.
-pub fn touch<F: Firing>(alloc: Global, net: &F, graph: &GraphFile) -> Result<(), Stop>
+pub fn test_incident<F: Firing>(alloc: Global, net: &F, graph: &GraphFile) -> Result<(), Stop>
     requires { IsNamed graph.now (F.net net.now) }
-    ensures { Does (touching graph.now (F.net net.now)) result }
+    ensures { Does (testing_incident graph.now (F.net net.now)) result }
 {
-    match first_untouched(net) {
+    match first_isolated(net) {
         None => Ok(()),
         Some(actor) => Err(Stop::Refused(Refusal::NoInput {
             scenario: None,

@@ -5,7 +5,7 @@ use Rattle.std.specs.List.{list_any}
 use Rattle.std.specs.Str.{bytes_eq}
 use Rattle.std.proofs.Math.Seq.{drop-cons}
 use Rattle.std.proofs.lemmas.List.{at_drop_all, get_or-map, length-map}
-use Rattle.sd_base.proofs.Lists.{any-map}
+use Rattle.sd_base.proofs.ElementsKeepPlaces.{any-map}
 use Rattle.sd_words.specs.Buffers.{Buffer, buffer_of, with_buffer, with_parts}
 
 -- a name is among the keys exactly where a buffer has it

@@ -1,14 +1,14 @@
 mod BufferParts
 mod OrderParts
-pub mod Turns
-pub mod Places
-pub mod Seen
-pub mod Apart
-pub mod Spelled
-pub mod Causes
-pub mod States
-pub mod Within
-pub mod Parsed
+pub mod TurnsGoOrEnd
+pub mod PlacesHoldValues
+pub mod SeenNamesMatch
+pub mod NamesStayApart
+pub mod ReadingGivesSettings
+pub mod AnswersFollowRules
+pub mod ReadNumbersFit
+pub mod AskedNumbersFit
+pub mod ClapFindsValues
 pub mod CutWords
 pub mod TestChains
 pub mod NamedOptions

@@ -10,18 +10,18 @@ use Rattle.sd_base.specs.Schedules.{Schedule, phases_at, count_of, end_of}
 use Rattle.sd_base.specs.SelfTimed
 use Rattle.sd_base.specs.SelfTimed.{earliest, ended_by, remaining_of, tokens_of, shape_of, shape_at}
 use Rattle.sd_base.specs.Lawful.{Lawful}
-use Rattle.sd_base.proofs.Parts.{regular}
-use Rattle.sd_base.proofs.Counts.{ended-at-is}
+use Rattle.sd_base.proofs.LawfulIsRegular.{regular}
+use Rattle.sd_base.proofs.EndsDecideCounts.{ended-at-is}
 use Rattle.selftimed.specs.declared.actors.ActorState.{ActorState}
 use Rattle.selftimed.specs.declared.shape.Shape.{Shape}
 use Rattle.selftimed.specs.inside.Actors.{idle, started_in, ended_in, running_in}
-use Rattle.sd_base.proofs.Sums.{total-zero}
+use Rattle.sd_base.proofs.SumsRepeatByTurns.{total-zero}
 use Rattle.selftimed.specs.declared.engine.Stage.{Stage}
 use Rattle.selftimed.specs.declared.engine.Stage.TheVariants.{Fresh, Running}
 use Rattle.selftimed.specs.inside.Stands.{IsFresh, Stands}
 use Rattle.selftimed.specs.EngineShapes.{form, first_shape}
 use Rattle.selftimed.specs.inside.Standings.{phases_now, remaining_now, IsPast}
-use Rattle.selftimed.proofs.Moving.{inputs-from}
+use Rattle.selftimed.proofs.MovesReachNextEvent.{inputs-from}
 
 module _ (net : Net) (laws : Lawful net) (now most : ℕ) (actors : List ActorState) (tokens : List ℕ) (all : ℕ) (stands : Stands net now most actors tokens all) where
   abbrev s : Schedule

@@ -12,10 +12,10 @@ use Rattle.firing.specs.Wiring.{PutsTokens, IsLevel}
 use Rattle.firing.proofs.TokenMoves.{MoreBy, level-puts, level-small, level-needs}
 use Rattle.selftimed.specs.declared.actors.ActorState.{ActorState}
 use Rattle.selftimed.specs.inside.Actors.{idle, started_in, ended_in, running_in, touched_in, lacking_in, EndsOne, Kept, TouchesItself, Touches, EndsAll, Stand}
-use Rattle.selftimed.specs.inside.Agendas.{Entry, entry, Announces, IsFirst, Lists, IsAgenda}
+use Rattle.selftimed.specs.inside.EventQueues.{Entry, entry, Announces, IsFirst, Lists, IsEventQueue}
 use Rattle.selftimed.specs.inside.Ports.{IsOwn, MayOwn, IsOther, IsListedBut}
 use Rattle.selftimed.proofs.OwnChannels.{own-or-other, of-own, not-own, other-place}
-use Rattle.selftimed.proofs.Agendas.{HasFirsts, has-firsts, has-number, number-found, runs-place, besides, announced-kept, announced-there, announced-all}
+use Rattle.selftimed.proofs.EventQueuesTellWhoRuns.{HasFirsts, has-firsts, has-number, number-found, runs-place, besides, announced-kept, announced-there, announced-all}
 
 at : List ActorState → ℕ → ActorState
 at actors a = slice_index_or actors a idle
@@ -225,16 +225,16 @@ pub record EndsSoFar (net : Net) (moment : ℕ) (first now : List ActorState) (t
   pub whole : HasFirsts now ends
   pub lists : Lists net now touched
 
-pub ends-none : (net : Net) (moment : ℕ) (first : List ActorState) (tokens : List ℕ) (ends : List Entry) (touched : List ℕ) → Stand net first tokens → IsAgenda net first ends touched → EndsSoFar net moment first first tokens ends touched
-ends-none net moment first tokens ends touched stand agenda = record {
+pub ends-none : (net : Net) (moment : ℕ) (first : List ActorState) (tokens : List ℕ) (ends : List Entry) (touched : List ℕ) → Stand net first tokens → IsEventQueue net first ends touched → EndsSoFar net moment first first tokens ends touched
+ends-none net moment first tokens ends touched stand event_queue = record {
   long = refl;
   ones = λ b is. ends-nothing moment (slice_index_or first b idle);
   stand = stand;
   lacking = λ b. refl;
   fed = λ i there off lacks. inl refl;
-  near = All-weaker (IsFirst first) (Near net moment first) (λ e is. (omega (arith, runs-place first e.1 is.0, stand.long), inr is)) ends agenda.firsts;
-  whole = has-firsts first ends agenda.firsts agenda.whole;
-  lists = agenda.lists;
+  near = All-weaker (IsFirst first) (Near net moment first) (λ e is. (omega (arith, runs-place first e.1 is.0, stand.long), inr is)) ends event_queue.firsts;
+  whole = has-firsts first ends event_queue.firsts event_queue.whole;
+  lists = event_queue.lists;
 }
 
 pub kept-then : (old mid new : List ActorState) → Kept old mid → Kept mid new → Kept old new

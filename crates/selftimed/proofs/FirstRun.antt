@@ -7,7 +7,7 @@ use Rattle.std.proofs.lemmas.List.Folds.{sum_by-replicate}
 use Rattle.selftimed.specs.declared.queue.Run.{Run}
 use Rattle.selftimed.specs.inside.Runs.{no_run, run_at, ends_of, AreRuns}
 use Rattle.selftimed.specs.inside.Kept.{AreKept}
-use Rattle.selftimed.proofs.Runs.{ends-first, ends-more, slice_get-front}
+use Rattle.selftimed.proofs.RunsListEnds.{ends-first, ends-more, slice_get-front}
 
 -- ---- what there is
 

@@ -9,7 +9,7 @@ use Rattle.sd_base.specs.Lawful.{Lawful}
 use Rattle.firing.specs.declared.sums.Port.{Port}
 use Rattle.firing.specs.declared.sums.Port.TheVariants.{Made, Taken}
 use Rattle.firing.specs.Wiring.{actor_at, IsListed, TakesTokens, PutsTokens}
-use Rattle.firing.proofs.Listings.{member-place}
+use Rattle.firing.proofs.PlacesAreListed.{member-place}
 use Rattle.firing.proofs.TokenMoves.{Changed, span-one}
 use Rattle.selftimed.specs.inside.Ports.{IsOwn, MayOwn, IsOther, IsRising, IsListedBut}
 use Rattle.selftimed.specs.inside.Starts.{Feeds}

@@ -11,7 +11,7 @@ use Rattle.firing.specs.declared.sums.Port.{Port}
 use Rattle.firing.specs.declared.sums.Port.TheVariants.{Made, Taken}
 use Rattle.firing.specs.inside.Cuts.{AreCuts}
 use Rattle.firing.specs.Wiring.{actor_at, IsListed}
-use Rattle.firing.proofs.Listings.{place_of, front, last}
+use Rattle.firing.proofs.PlacesAreListed.{place_of, front, last}
 use Rattle.selftimed.specs.declared.engine.Stage.{Stage}
 use Rattle.selftimed.specs.declared.engine.Stage.TheVariants.{Fresh, Running, OutOfMemory}
 use Rattle.selftimed.specs.declared.ports.ChannelRows.{ChannelRows}

@@ -5,7 +5,7 @@ use Rattle.std.proofs.Math.Seq.{take-add}
 use Rattle.std.proofs.lemmas.List.{append_cancel_left, drop_at, ext_get_or, get_or-map, length-drop, length-map, length-replicate, length-take, length-take-le, map-append, take_at, take-append-drop}
 use Rattle.selftimed.specs.declared.queue.Run.{Run}
 use Rattle.selftimed.specs.inside.Runs.{no_run, run_at, ends_of, AreRuns, left_of, NoneEnded}
-use Rattle.selftimed.proofs.Runs.{ends-more, ends-parts, none-ended}
+use Rattle.selftimed.proofs.RunsListEnds.{ends-more, ends-parts, none-ended}
 
 -- ---- the times left of some runs, by firing
 

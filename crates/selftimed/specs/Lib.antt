@@ -1,4 +1,4 @@
-pub mod Prints
+pub mod Fingerprints
 pub mod Moves
 pub mod inside
 pub mod EngineShapes

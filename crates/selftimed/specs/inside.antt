@@ -1,5 +1,5 @@
 pub mod Actors
-pub mod Agendas
+pub mod EventQueues
 pub mod Runs
 pub mod Queues
 pub mod Kept

@@ -1,7 +1,7 @@
 ghost use Rattle.std.specs.Prelude.{◌≡◌, ◌↔◌, ◌≤◌, ◌<◌, ◌∷◌, [], All, IsPermutation, IfSome, IsTrue, MatchOption, OnOk, length, slice_index_or};
 ghost use Rattle.std.specs.BinaryHeap.{IsHeap, heap_items};
 ghost use Rattle.std.proofs.Props.{props};
-ghost use Rattle.selftimed.specs.inside.Agendas.{Entry, entry, later_end, IsSoonest, TakesDue};
+ghost use Rattle.selftimed.specs.inside.EventQueues.{Entry, entry, later_end, IsSoonest, TakesDue};
 
 use std::alloc::{AllocError, Global};
 use std::cmp::Reverse;
@@ -25,7 +25,7 @@ pub(crate) struct Calendar {
 impl Model for Calendar {
     ghost use Rattle.std.specs.Prelude.{◌≡◌, List, [], ◌++◌, IsFalse, IsTrue};
     ghost use Rattle.std.specs.BinaryHeap.{heap_items};
-    ghost use Rattle.selftimed.specs.inside.Agendas.{Entry};
+    ghost use Rattle.selftimed.specs.inside.EventQueues.{Entry};
 
     ghost Value = { List Entry };
 

@@ -2,7 +2,7 @@
 ghost use Rattle.std.specs.Prelude.{◌≡◌, ◌↔◌, ℕ, ◌-◌, ◌<◌, ◌≤◌, IsTrue, length, map, slice_index};
 ghost use Rattle.selftimed.specs.inside.Runs.{ends_of, left_of, AreRuns, NoneEnded};
 ghost use Rattle.selftimed.specs.inside.Standings.{phases_now, remaining_now, IsPast};
-ghost use Rattle.selftimed.specs.Prints.{running_print_of};
+ghost use Rattle.selftimed.specs.Fingerprints.{running_fingerprint_of};
 
 use crate::actors::ActorState;
 use crate::queue::Run;
@@ -26,19 +26,19 @@ pub(crate) fn same_stands<F: Firing>(net: &F, left: &[ActorState], right: &[Acto
     true
 }
 
-/// The print of the times left of the actors' running firings. Cost: linear in the actors.
-pub(crate) fn running_print(moment: u64, actors: &[ActorState]) -> u64
+/// The fingerprint of the times left of the actors' running firings. Cost: linear in the actors.
+pub(crate) fn running_fingerprint(moment: u64, actors: &[ActorState]) -> u64
     requires { IsPast moment actors.now }
-    ensures { result ≡ running_print_of (remaining_now moment actors.now) }
+    ensures { result ≡ running_fingerprint_of (remaining_now moment actors.now) }
 {
-    let mut print = 0u64;
+    let mut fingerprint = 0u64;
     for (actor, state) in actors.iter().enumerate() {
         let left = state.running.time_left(moment);
         if left != 0 {
-            print = print.wrapping_add(weight_of(actor as u64).wrapping_mul(left));
+            fingerprint = fingerprint.wrapping_add(weight_of(actor as u64).wrapping_mul(left));
         }
     }
-    print
+    fingerprint
 }
 
 /// Whether each actor's running firings have the same times left.

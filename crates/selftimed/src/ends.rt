@@ -4,12 +4,12 @@ ghost use Rattle.sd_base.specs.Net.{channel_at, phase_entry};
 ghost use Rattle.firing.specs.declared.sums.Port.TheVariants.{Made};
 ghost use Rattle.firing.specs.Wiring.{PutsTokens};
 ghost use Rattle.selftimed.specs.inside.Actors.{EndsOne, Touches, TouchesItself};
-ghost use Rattle.selftimed.specs.inside.Agendas.{Lists};
+ghost use Rattle.selftimed.specs.inside.EventQueues.{Lists};
 ghost use Rattle.selftimed.specs.inside.PortRates.{AreRates, no_rates};
 ghost use Rattle.selftimed.specs.inside.Ports.{IsListedBut, MayOwn};
 
 use crate::actors::ActorState;
-use crate::agenda::Agenda;
+use crate::event_queue::EventQueue;
 use crate::rates::{Rates, moved_span, taken_at};
 use crate::tokens::Tokens;
 use firing::{Firing, Port};
@@ -84,17 +84,17 @@ impl<F: Firing> DueActor<'_, F> {
     pub(crate) fn touch_itself(
         &self,
         actors: &mut [ActorState],
-        agenda: &mut Agenda,
+        event_queue: &mut EventQueue,
     ) -> Result<(), NoMemory>
         requires long { length actors.old ≡ length (F.net self.now.net.now).times }
-        requires lists { Lists (F.net self.now.net.now) actors.old agenda.old.touched.items }
+        requires lists { Lists (F.net self.now.net.now) actors.old event_queue.old.touched.items }
         ensures touched { OnOk result (TouchesItself self.now.own self.now.actor actors.old actors.new) }
-        ensures lists { OnOk result (Lists (F.net self.now.net.now) actors.new agenda.new.touched.items) }
-        ensures ends { agenda.new.ends ≡ agenda.old.ends }
+        ensures lists { OnOk result (Lists (F.net self.now.net.now) actors.new event_queue.new.touched.items) }
+        ensures ends { event_queue.new.ends ≡ event_queue.old.ends }
     {
         if let Some(channel) = self.own {
             if actors[self.actor as usize].lacking == channel {
-                agenda.touch(self.actor, &mut actors[self.actor as usize])?;
+                event_queue.touch(self.actor, &mut actors[self.actor as usize])?;
             }
         }
         Ok(())
@@ -106,14 +106,14 @@ impl<F: Firing> DueActor<'_, F> {
         &self,
         tokens: &[u64],
         actors: &mut [ActorState],
-        agenda: &mut Agenda,
+        event_queue: &mut EventQueue,
     ) -> Result<(), NoMemory>
         requires long { length actors.old ≡ length (F.net self.now.net.now).times }
         requires tokens { length tokens.now ≡ length (F.net self.now.net.now).channels }
-        requires lists { Lists (F.net self.now.net.now) actors.old agenda.old.touched.items }
+        requires lists { Lists (F.net self.now.net.now) actors.old event_queue.old.touched.items }
         ensures touched { OnOk result (Touches (F.net self.now.net.now) tokens.now self.now.outputs.now actors.old actors.new) }
-        ensures lists { OnOk result (Lists (F.net self.now.net.now) actors.new agenda.new.touched.items) }
-        ensures ends { agenda.new.ends ≡ agenda.old.ends }
+        ensures lists { OnOk result (Lists (F.net self.now.net.now) actors.new event_queue.new.touched.items) }
+        ensures ends { event_queue.new.ends ≡ event_queue.old.ends }
     {
         for channel in self.outputs {
             let target = target_of(self.rates, *channel);
@@ -124,7 +124,7 @@ impl<F: Firing> DueActor<'_, F> {
                 *channel,
                 &actors[target as usize],
             ) {
-                agenda.touch(target, &mut actors[target as usize])?;
+                event_queue.touch(target, &mut actors[target as usize])?;
             }
         }
         Ok(())

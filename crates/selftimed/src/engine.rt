@@ -10,7 +10,7 @@ ghost use Rattle.selftimed.specs.inside.PortRates.{AreRates};
 ghost use Rattle.selftimed.specs.inside.Ports.{ArePorts, StillPorts};
 ghost use Rattle.std.proofs.Props.{props};
 ghost use Rattle.selftimed.specs.EngineShapes.{first_shape, form};
-ghost use Rattle.selftimed.specs.Prints.{print_of, running_print_of};
+ghost use Rattle.selftimed.specs.Fingerprints.{fingerprint_of, running_fingerprint_of};
 ghost use Rattle.selftimed.specs.Moves.{AreAlike, AreStarters, IsMove, IsStuck, IsSpent};
 ghost use Rattle.firing.specs.Wiring.{IsWiringOf};
 ghost use Rattle.selftimed.specs.declared.engine.Stage.{Stage};
@@ -19,9 +19,9 @@ ghost use Rattle.selftimed.specs.inside.Stands.{IsFresh, Stands};
 ghost use Rattle.selftimed.specs.inside.Wirings.{wiring_in};
 
 use crate::actors::{ActorState, refresh};
-use crate::agenda::Agenda;
-use crate::compare::{running_print, same_running, same_stands};
+use crate::compare::{running_fingerprint, same_running, same_stands};
 use crate::event::Event;
+use crate::event_queue::EventQueue;
 use crate::ports::Ports;
 use crate::rates::{Rates, rates_of, reset_rates};
 use crate::shape::{
@@ -74,15 +74,15 @@ pub struct Engine<'a, F: Firing> {
     all: u64,
     actors: Vec<ActorState>,
     tokens: Tokens,
-    agenda: Agenda,
+    event_queue: EventQueue,
     ghost few: { most ≤ 2 ^ 32 },
     ghost wired: { IsWiringOf (F.net net.now) (wiring_in wiring) },
     ghost rated: { AreRates (F.net net.now) rates.items },
     ghost ported: { StillPorts stage (F.net net.now) ports } by { Prim.hlevel props },
     ghost fresh: { stage ≡ Stage.Fresh → IsFresh (F.net net.now) most actors.items tokens all },
-    ghost waits: { stage ≡ Stage.Fresh → Plans (F.net net.now) actors.items agenda },
-    ghost starters: { stage ≡ Stage.Running → AreStarters (F.net net.now) moment agenda.starters.items } by { Prim.hlevel props },
-    ghost goes: { stage ≡ Stage.Running → Plans (F.net net.now) actors.items agenda },
+    ghost waits: { stage ≡ Stage.Fresh → Plans (F.net net.now) actors.items event_queue },
+    ghost starters: { stage ≡ Stage.Running → AreStarters (F.net net.now) moment event_queue.starters.items } by { Prim.hlevel props },
+    ghost goes: { stage ≡ Stage.Running → Plans (F.net net.now) actors.items event_queue },
     ghost stands: { stage ≡ Stage.Running → Stands (F.net net.now) moment most actors.items tokens all },
 }
 
@@ -100,7 +100,7 @@ impl<F: Firing> Drop for Engine<'_, F> {
             all: _all,
             actors: _actors,
             tokens: _tokens,
-            agenda: _agenda,
+            event_queue: _event_queue,
         } = self;
     }
 }
@@ -151,7 +151,7 @@ impl<'a, F: Firing> Engine<'a, F> {
         let mut ports = Ports::with_room(alloc, net.actors(), net.channels())?;
         let mut actors = Vec::new(alloc);
         let mut tokens = Tokens::new(alloc);
-        let mut agenda = Agenda::new(alloc);
+        let mut event_queue = EventQueue::new(alloc);
         let wired = Wired {
             net,
             wiring: wiring.get(),
@@ -161,7 +161,7 @@ impl<'a, F: Firing> Engine<'a, F> {
             &wired,
             &mut actors,
             &mut tokens,
-            &mut agenda,
+            &mut event_queue,
             &mut ports,
         )?;
         Ok(Engine {
@@ -175,7 +175,7 @@ impl<'a, F: Firing> Engine<'a, F> {
             all: 0,
             actors,
             tokens,
-            agenda,
+            event_queue,
         })
     }
 
@@ -200,7 +200,7 @@ impl<'a, F: Firing> Engine<'a, F> {
             &wired,
             &mut self.actors,
             &mut self.tokens,
-            &mut self.agenda,
+            &mut self.event_queue,
             &mut self.ports,
         )?;
         reset_rates(net, self.rates.as_mut_slice());
@@ -255,7 +255,7 @@ impl<'a, F: Firing> Engine<'a, F> {
             &mut self.all,
             self.actors.as_mut_slice(),
             &mut self.tokens,
-            &mut self.agenda,
+            &mut self.event_queue,
         )?;
         if !fits {
             self.stage = Stage::Spent;
@@ -278,7 +278,7 @@ impl<'a, F: Firing> Engine<'a, F> {
         ensures moved { IfOk result (λ move. IsMove (F.net self.old.net.now) self.old.most self.old.stage self.old.moment move self.new.stage self.new.moment) }
         ensures lost { IfErr result (λ e. self.new.stage ≡ Stage.OutOfMemory) }
     {
-        let Some(moment) = self.agenda.soonest() else {
+        let Some(moment) = self.event_queue.soonest() else {
             return Ok(Move::Stuck);
         };
         self.stage = Stage::OutOfMemory;
@@ -293,7 +293,7 @@ impl<'a, F: Firing> Engine<'a, F> {
             &mut self.all,
             self.actors.as_mut_slice(),
             &mut self.tokens,
-            &mut self.agenda,
+            &mut self.event_queue,
         )?;
         if !fits {
             self.stage = Stage::Spent;
@@ -338,24 +338,24 @@ impl<'a, F: Firing> Engine<'a, F> {
         requires { self.now.stage ≡ Stage.Running }
         ensures { AreStarters (F.net self.now.net.now) self.now.moment result.now }
     {
-        self.agenda.starters.as_slice()
+        self.event_queue.starters.as_slice()
     }
 
-    /// The print of the tokens that stand after the starts of the last event: equal shapes have equal prints.
-    pub fn print(&self) -> u64
+    /// The fingerprint of the tokens that stand after the starts of the last event: equal shapes have equal fingerprints.
+    pub fn fingerprint(&self) -> u64
         requires { self.now.stage ≡ Stage.Running }
-        ensures { result ≡ print_of (shape_at (F.net self.now.net.now) self.now.moment).tokens }
+        ensures { result ≡ fingerprint_of (shape_at (F.net self.now.net.now) self.now.moment).tokens }
     {
-        self.tokens.print()
+        self.tokens.fingerprint()
     }
 
-    /// The print of the remaining times of the firings that run after the last event: equal shapes have equal
-    /// prints. Cost: linear in the actors.
-    pub fn running_print(&self) -> u64
+    /// The fingerprint of the remaining times of the firings that run after the last event: equal shapes have equal
+    /// fingerprints. Cost: linear in the actors.
+    pub fn running_fingerprint(&self) -> u64
         requires { self.now.stage ≡ Stage.Running }
-        ensures { result ≡ running_print_of (shape_at (F.net self.now.net.now) self.now.moment).remaining }
+        ensures { result ≡ running_fingerprint_of (shape_at (F.net self.now.net.now) self.now.moment).remaining }
     {
-        running_print(self.moment, self.actors.as_slice())
+        running_fingerprint(self.moment, self.actors.as_slice())
     }
 
     /// What stands after the starts of the last event; before the first event, what stands then.
@@ -402,7 +402,7 @@ impl<'a, F: Firing> Engine<'a, F> {
         if !self.tokens.same_as(&other.tokens) {
             return false;
         }
-        if self.running_print() != other.running_print() {
+        if self.running_fingerprint() != other.running_fingerprint() {
             return false;
         }
         if !same_stands(self.net, self.actors.as_slice(), other.actors.as_slice()) {
@@ -423,17 +423,17 @@ fn begin_anew<F: Firing>(
     wired: &Wired<F>,
     actors: &mut Vec<ActorState>,
     tokens: &mut Tokens,
-    agenda: &mut Agenda,
+    event_queue: &mut EventQueue,
     ports: &mut Ports,
 ) -> Result<(), NoMemory>
     ensures fresh { OnOk result ((most : ℕ) → IsFresh (F.net wired.now.net.now) most actors.new.items tokens.new 0) }
-    ensures waits { OnOk result (Plans (F.net wired.now.net.now) actors.new.items agenda.new) }
+    ensures waits { OnOk result (Plans (F.net wired.now.net.now) actors.new.items event_queue.new) }
     ensures ported { OnOk result (ArePorts (F.net wired.now.net.now) ports.new) }
 {
     let count = wired.net.actors();
     refresh(alloc, actors, count)?;
     tokens.refill(wired.net)?;
-    agenda.refill(count)?;
+    event_queue.refill(count)?;
     ports.refill(wired)?;
     Ok(())
 }

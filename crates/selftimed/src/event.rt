@@ -13,8 +13,8 @@ ghost use Rattle.selftimed.specs.inside.Stands.{IsFresh, Stands, Begins};
 ghost use Rattle.selftimed.specs.Moves.{AreStarters, Overruns};
 
 use crate::actors::ActorState;
-use crate::agenda::Agenda;
 use crate::ends::DueActor;
+use crate::event_queue::EventQueue;
 use crate::ports::Ports;
 use crate::rates::Rates;
 use crate::starts::Turn;
@@ -42,18 +42,18 @@ impl<F: Firing> Event<'_, F> {
         all: &mut u64,
         actors: &mut [ActorState],
         tokens: &mut Tokens,
-        agenda: &mut Agenda,
+        event_queue: &mut EventQueue,
     ) -> Result<bool, NoMemory>
         requires first { self.now.moment ≡ 0 }
         requires fresh { IsFresh (F.net self.now.net.now) self.now.most actors.old tokens.old all.old }
-        requires agenda { Plans (F.net self.now.net.now) actors.old agenda.old }
+        requires event_queue { Plans (F.net self.now.net.now) actors.old event_queue.old }
         ensures fits { IfOk result (λ fits. MatchBool fits (Begins (F.net self.now.net.now) self.now.most actors.new tokens.new all.new)
             (Overruns (F.net self.now.net.now) 0 self.now.most)) }
-        ensures agenda { IfOk result (λ fits. OnTrue fits (Plans (F.net self.now.net.now) actors.new agenda.new)) }
-        ensures starters { IfOk result (λ fits. OnTrue fits (AreStarters (F.net self.now.net.now) self.now.moment agenda.new.starters.items)) }
+        ensures event_queue { IfOk result (λ fits. OnTrue fits (Plans (F.net self.now.net.now) actors.new event_queue.new)) }
+        ensures starters { IfOk result (λ fits. OnTrue fits (AreStarters (F.net self.now.net.now) self.now.moment event_queue.new.starters.items)) }
     {
         know_laws(self.net);
-        let fits = self.start_all(all, actors, tokens, agenda)?;
+        let fits = self.start_all(all, actors, tokens, event_queue)?;
         Ok(fits)
     }
 
@@ -63,19 +63,19 @@ impl<F: Firing> Event<'_, F> {
         all: &mut u64,
         actors: &mut [ActorState],
         tokens: &mut Tokens,
-        agenda: &mut Agenda,
+        event_queue: &mut EventQueue,
     ) -> Result<bool, NoMemory>
         requires stands { (now : ℕ) × Stands (F.net self.now.net.now) now self.now.most actors.old tokens.old all.old }
-        requires agenda { Plans (F.net self.now.net.now) actors.old agenda.old }
+        requires event_queue { Plans (F.net self.now.net.now) actors.old event_queue.old }
         requires next { IsFirstEnd actors.old self.now.moment }
         ensures fits { IfOk result (λ fits. MatchBool fits (Stands (F.net self.now.net.now) self.now.moment self.now.most actors.new tokens.new all.new)
             (Overruns (F.net self.now.net.now) self.now.moment self.now.most)) }
-        ensures agenda { IfOk result (λ fits. OnTrue fits (Plans (F.net self.now.net.now) actors.new agenda.new)) }
-        ensures starters { IfOk result (λ fits. OnTrue fits (AreStarters (F.net self.now.net.now) self.now.moment agenda.new.starters.items)) }
+        ensures event_queue { IfOk result (λ fits. OnTrue fits (Plans (F.net self.now.net.now) actors.new event_queue.new)) }
+        ensures starters { IfOk result (λ fits. OnTrue fits (AreStarters (F.net self.now.net.now) self.now.moment event_queue.new.starters.items)) }
     {
         know_laws(self.net);
-        self.end_all(actors, tokens, agenda)?;
-        let fits = self.start_all(all, actors, tokens, agenda)?;
+        self.end_all(actors, tokens, event_queue)?;
+        let fits = self.start_all(all, actors, tokens, event_queue)?;
         Ok(fits)
     }
 
@@ -85,15 +85,15 @@ impl<F: Firing> Event<'_, F> {
         &self,
         actors: &mut [ActorState],
         tokens: &mut Tokens,
-        agenda: &mut Agenda,
+        event_queue: &mut EventQueue,
     ) -> Result<(), NoMemory>
         requires stand { Stand (F.net self.now.net.now) actors.old tokens.old }
-        requires agenda { Plans (F.net self.now.net.now) actors.old agenda.old }
+        requires event_queue { Plans (F.net self.now.net.now) actors.old event_queue.old }
         ensures ended { OnOk result (EndsAll (F.net self.now.net.now) self.now.moment actors.old actors.new) }
         ensures stand { OnOk result (Stand (F.net self.now.net.now) actors.new tokens.new) }
-        ensures agenda { OnOk result (Plans (F.net self.now.net.now) actors.new agenda.new) }
+        ensures event_queue { OnOk result (Plans (F.net self.now.net.now) actors.new event_queue.new) }
     {
-        while let Some(actor) = agenda.pop_due(self.moment) {
+        while let Some(actor) = event_queue.pop_due(self.moment) {
             let due = DueActor {
                 net: self.net,
                 rates: self.rates,
@@ -103,9 +103,9 @@ impl<F: Firing> Event<'_, F> {
                 moment: self.moment,
             };
             due.end_firings(&mut actors[actor as usize], tokens);
-            agenda.announce(actor, &actors[actor as usize])?;
-            due.touch_itself(actors, agenda)?;
-            due.touch_targets(tokens.as_slice(), actors, agenda)?;
+            event_queue.announce(actor, &actors[actor as usize])?;
+            due.touch_itself(actors, event_queue)?;
+            due.touch_targets(tokens.as_slice(), actors, event_queue)?;
         }
         Ok(())
     }
@@ -118,10 +118,10 @@ impl<F: Firing> Event<'_, F> {
         all: &mut u64,
         actors: &mut [ActorState],
         tokens: &mut Tokens,
-        agenda: &mut Agenda,
+        event_queue: &mut EventQueue,
     ) -> Result<bool, NoMemory>
         requires stand { Stand (F.net self.now.net.now) actors.old tokens.old }
-        requires agenda { Plans (F.net self.now.net.now) actors.old agenda.old }
+        requires event_queue { Plans (F.net self.now.net.now) actors.old event_queue.old }
         requires counted { Counted actors.old all.old self.now.most }
         requires lacks { (b : ℕ) → b < length (F.net self.now.net.now).times → touched_in actors.old b ≡ false →
             LacksAt (F.net self.now.net.now) (ended_in actors.old) b (started_in actors.old b) (lacking_in actors.old b) }
@@ -130,11 +130,11 @@ impl<F: Firing> Event<'_, F> {
             (CanOverrun (F.net self.now.net.now) (ended_in actors.old) self.now.most)) }
         ensures stand { IfOk result (λ fits. OnTrue fits (Stand (F.net self.now.net.now) actors.new tokens.new)) }
         ensures counted { IfOk result (λ fits. OnTrue fits (Counted actors.new all.new self.now.most)) }
-        ensures agenda { IfOk result (λ fits. OnTrue fits (Plans (F.net self.now.net.now) actors.new agenda.new)) }
-        ensures starters { IfOk result (λ fits. OnTrue fits (HaveStarted (F.net self.now.net.now) actors.old actors.new agenda.new.starters.items)) }
+        ensures event_queue { IfOk result (λ fits. OnTrue fits (Plans (F.net self.now.net.now) actors.new event_queue.new)) }
+        ensures starters { IfOk result (λ fits. OnTrue fits (HaveStarted (F.net self.now.net.now) actors.old actors.new event_queue.new.starters.items)) }
     {
-        agenda.starters.clear();
-        while let Some(actor) = agenda.touched.pop() {
+        event_queue.starters.clear();
+        while let Some(actor) = event_queue.touched.pop() {
             if !actors[actor as usize].touched {
                 continue;
             }
@@ -150,12 +150,12 @@ impl<F: Firing> Event<'_, F> {
             match turn.start_one(self.most - *all, &mut actors[actor as usize], tokens)? {
                 Some(firings) => {
                     *all += firings;
-                    agenda.note_starts(actor, firings)?;
+                    event_queue.note_starts(actor, firings)?;
                 }
                 None => return Ok(false),
             }
             if was_idle {
-                agenda.announce(actor, &actors[actor as usize])?;
+                event_queue.announce(actor, &actors[actor as usize])?;
             }
         }
         Ok(true)

@@ -2,12 +2,12 @@
 #![tactic(auto)]
 
 mod actors;
-mod agenda;
 mod calendar;
 mod compare;
 mod ends;
 mod engine;
 mod event;
+mod event_queue;
 mod ports;
 mod queue;
 mod rates;

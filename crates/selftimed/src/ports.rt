@@ -4,7 +4,7 @@
 //! engine knows it of each actor, and moves its tokens by the number of firings, with no look at its rates: it is the first
 //! that is asked when an actor is to start, and when firings of an actor end that lacked its tokens, the actor is touched
 //! without a look at them. The other channels of each actor lie side by side, so that they alone are gone through. The
-//! tokens of an own channel stand among those of all channels, so what is said of tokens, shapes and prints knows no
+//! tokens of an own channel stand among those of all channels, so what is said of tokens, shapes and fingerprints knows no
 //! difference. An actor of several phases, a second channel from an actor to itself and one with other rates are gone
 //! through as any other.
 ghost use Rattle.std.specs.Prelude.{◌≡◌, ◌↔◌, ℕ, ◌+◌, ◌<◌, ◌++◌, List, IfOk, IfSome, IsTrue, OnOk, length, slice_index, slice_range, true};

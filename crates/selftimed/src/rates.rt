@@ -1,7 +1,7 @@
 //! What each firing asks of a channel.
 //!
 //! What a firing asks for lies together. An engine keeps by channel the target, the rates of the first phase and the weight
-//! in a print, which a bounded net would otherwise look up by way of the channel whose space it is. Of an actor of one
+//! in a fingerprint, which a bounded net would otherwise look up by way of the channel whose space it is. Of an actor of one
 //! phase these decide all; one of more phases is asked phase by phase.
 ghost use Rattle.std.specs.Prelude.{◌≡◌, ◌+◌, ◌*◌, ◌^◌, ◌<◌, ◌≤◌, IfOk, length, slice_index};
 ghost use Rattle.sd_base.specs.declared.limits.TheConstants.{RATE};
@@ -16,7 +16,7 @@ use sd_base::NoMemory;
 use std::alloc::Global;
 
 /// What each firing asks of a channel: who takes from it, what a firing in the first phase takes and puts, and the
-/// weight of the channel's tokens in a print. An execution has them side by side.
+/// weight of the channel's tokens in a fingerprint. An execution has them side by side.
 #[derive(Clone, Copy, Debug)]
 pub(crate) struct Rates {
     pub(crate) target: u32,

@@ -16,6 +16,7 @@ use std::alloc::Global;
 pub struct Shape {
     pub tokens: Rows<u128>,
     pub phases: Rows<u32>,
+    /// In time units.
     pub remaining: Rows<Rows<u64>>,
 }
 

@@ -12,15 +12,15 @@ use Rattle.sd_base.specs.declared.tables.ActorRow.{ActorRow}
 use Rattle.sd_base.specs.declared.tables.ChannelRow.{ChannelRow}
 use Rattle.sd_base.specs.Net.{Net}
 use Rattle.sd_base.specs.Lawful.{Lawful}
-use Rattle.sd_base.proofs.Parts.{wired, balanced}
-use Rattle.sd_base.proofs.Lists.{entry-le-sum}
+use Rattle.sd_base.proofs.LawfulIsRegular.{wired, balanced}
+use Rattle.sd_base.proofs.ElementsKeepPlaces.{entry-le-sum}
 use Rattle.single_rate.specs.declared.links.Link.{Link}
 use Rattle.single_rate.specs.Expansions.{copy_name, copy_row, copy_rows, expansion, first_copy, link_row, link_rows, links_of}
 use Rattle.single_rate.specs.Firings.{no_link}
 use Rattle.single_rate.specs.Limits.{excess, has_long_name}
 use Rattle.single_rate.specs.Names.{ActorsDiffer, ChannelsDiffer}
 use Rattle.single_rate.proofs.CopyNumbers.{copy-of}
-use Rattle.single_rate.proofs.Expanded.{many-copies, copy-row-at, rows-at, length-rows}
+use Rattle.single_rate.proofs.ExpansionsUnroll.{many-copies, copy-row-at, rows-at, length-rows}
 
 -- a byte doesn't stand in a text, by recursion
 abbrev IsFree : ℕ → List ℕ → Type 0

@@ -11,13 +11,13 @@ use Rattle.sd_base.specs.Lawful.{Lawful}
 use Rattle.sd_base.specs.Rates.{Rate}
 use Rattle.sd_base.specs.Untimed.{Blocks}
 use Rattle.sd_base.specs.Connection.{IsPath, IsStronglyConnected, ends_of}
-use Rattle.sd_base.proofs.Connections.{channel-of}
-use Rattle.sd_base.proofs.Sums.{total-le, total-grows}
-use Rattle.sd_base.proofs.Parts.{regular, timed, wired, balanced}
-use Rattle.sd_base.proofs.Admissibles.{needed-tokens}
-use Rattle.sd_base.proofs.Blocking.{blocked-bounds}
-use Rattle.sd_base.proofs.Existence.{earliest-is}
-use Rattle.sd_base.proofs.Ends.{sum_to}
+use Rattle.sd_base.proofs.PathsAreWalks.{channel-of}
+use Rattle.sd_base.proofs.SumsRepeatByTurns.{total-le, total-grows}
+use Rattle.sd_base.proofs.LawfulIsRegular.{regular, timed, wired, balanced}
+use Rattle.sd_base.proofs.FiringsKeepOrder.{needed-tokens}
+use Rattle.sd_base.proofs.ClosedCountsBoundRuns.{blocked-bounds}
+use Rattle.sd_base.proofs.EarliestExists.{earliest-is}
+use Rattle.sd_base.proofs.FiringOrdersEnd.{sum_to}
 use Rattle.sd_base.proofs.LoopRates.{sum_to-part}
 
 unfoldable most_along : Net → List ℕ → ℕ → ℕ

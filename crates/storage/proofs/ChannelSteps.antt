@@ -8,7 +8,7 @@ use Rattle.std.proofs.lemmas.List.{get_or_append_left, get_or-append_right, get_
 use Rattle.std.proofs.lemmas.Nat.Gcd.{IsGcd-from_zero, IsGcd-from_mod, dvd-zero, dvd_trans, dvd_antisymm}
 use Rattle.sd_base.specs.declared.limits.TheConstants.{RATE}
 use Rattle.sd_base.specs.Net.{Channel, total}
-use Rattle.sd_base.proofs.Sums.{total-turn, total-bound}
+use Rattle.sd_base.proofs.SumsRepeatByTurns.{total-turn, total-bound}
 use Rattle.storage.specs.Steps.{euclid, divisor_of, step_of}
 
 euclid-is : (fuel a b : ℕ) → b < fuel → IsGcd a b (euclid fuel a b)

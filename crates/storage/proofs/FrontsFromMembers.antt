@@ -6,12 +6,12 @@ use Rattle.std.proofs.Math.Nat.{le_of_mul-le-mul_right}
 use Rattle.std.proofs.lemmas.Bool.{cases_lt, cases_order}
 use Rattle.sd_base.specs.Net.{Channel, Net, nowhere}
 use Rattle.sd_base.specs.Lawful.{Lawful}
-use Rattle.sd_base.proofs.Divisors.{same_fraction}
+use Rattle.sd_base.proofs.LeastMultiplesDivide.{same_fraction}
 use Rattle.storage.specs.Distributions.{IsDistribution, AtMost, storage_of}
 use Rattle.storage.specs.ParetoPoints.{Rating, ReachesBy, Pair, IsReachedBy, Beats, IsParetoBy, no_pair, IsFrontBy, rating_of, Reaches, IsPareto, IsFront}
 use Rattle.storage.specs.ClosedLists.{Entry, entry_at, HasEntry, IsClosedBy, IsCovered, IsFrontOverBy, IsClosed, IsFrontOver}
-use Rattle.storage.proofs.Climbs.{HasSteps, storage-le}
-use Rattle.storage.proofs.Covers.{covered-by, net-steps}
+use Rattle.storage.proofs.StepsReachMembers.{HasSteps, storage-le}
+use Rattle.storage.proofs.MembersCover.{covered-by, net-steps}
 
 pub no_less : (a b c d e f : ℕ) → 1 ≤ d → a * d ≤ c * b → c * f ≤ e * d → a * f ≤ e * b
 no_less a b c d e f some one other = let up : a * d * f ≤ c * b * f = mul-le-mul_right f one in let on : c * f * b ≤ e * d * b = mul-le-mul_right b other in let all : a * f * d ≤ e * b * d = omega arith in le_of_mul-le-mul_right all some

@@ -13,7 +13,7 @@ use Rattle.sd_base.specs.Tables.{KeepsRules}
 use Rattle.sd_base.specs.Net.{Channel, file_channel, file_channels, file_channels_from}
 use Rattle.sd_base.specs.FileNet.{own_channels_from, net_of}
 use Rattle.sd_base.proofs.FileNets.{file-length, own-few}
-use Rattle.sd_base.proofs.Truths.{bytes_turned}
+use Rattle.sd_base.proofs.ByteTestsDecide.{bytes_turned}
 use Rattle.storage.specs.declared.buffers.BufferError.{BufferError}
 use Rattle.storage.specs.declared.buffers.BufferError.TheVariants.{Unknown, SelfLoop, BelowTokens}
 use Rattle.storage.specs.Distributions.{CanHold}

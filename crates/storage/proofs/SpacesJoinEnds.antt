@@ -4,7 +4,7 @@ use Rattle.std.specs.Prelude.{slice_index_or}
 use Rattle.std.proofs.lemmas.Bool.{cases_eq}
 use Rattle.sd_base.specs.Net.{Channel, Net, nowhere, channel_at}
 use Rattle.sd_base.specs.Connection.{IsPath, IsWalk, Reaches, IsConnected, IsStronglyConnected, ends_of}
-use Rattle.sd_base.proofs.Connections.{IsChannel, channel-of, pair-of}
+use Rattle.sd_base.proofs.PathsAreWalks.{IsChannel, channel-of, pair-of}
 use Rattle.storage.specs.Distributions.{capacity_at, IsDistribution}
 use Rattle.storage.specs.BoundedNets.{bound}
 use Rattle.storage.proofs.SpaceChannels.{bound-front, bound-long, bound-space}

@@ -8,5 +8,5 @@ pub mod ShownSpaces
 pub mod ParetoPoints
 pub mod ClosedLists
 pub mod RoomElsewhere
-pub mod TouchedActors
+pub mod IncidentActors
 pub mod inside

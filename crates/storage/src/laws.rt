@@ -18,7 +18,7 @@ ghost use Rattle.sd_base.specs.FileNet.{net_of};
 ghost use Rattle.storage.specs.NamedBuffers.{Buffer, capacities_of, first_fault};
 ghost use Rattle.sd_base.specs.Schedules.{HasInputs};
 ghost use Rattle.storage.specs.RoomElsewhere.{CyclesBoundRoomierNets, CyclesHoldWithMoreRoom};
-ghost use Rattle.storage.specs.TouchedActors.{AreTouched, IsTouched};
+ghost use Rattle.storage.specs.IncidentActors.{AreIncident, IsIncident};
 
 use critical::laws::cycles_bound_the_rate;
 
@@ -90,7 +90,7 @@ pub fn need_cycles_hold_with_more_room()
 
 /// Where some channel begins or ends at each actor, each actor has an input in the net of each distribution; and an actor
 /// that has an input in a bounded net is one at which some channel begins or ends, so that no other has one in any of them.
-pub fn touched_nets_have_inputs()
-    ensures inputs { (net : Net) (ds : List (Option ℕ)) → AreTouched net → IsDistribution net.channels ds → HasInputs (bound net ds) }
-    ensures touched { (net : Net) (ds : List (Option ℕ)) (a i : ℕ) → i < length (bound net ds).channels → (channel_at (bound net ds) i).target ≡ a → IsTouched net a }
+pub fn incident_nets_have_inputs()
+    ensures inputs { (net : Net) (ds : List (Option ℕ)) → AreIncident net → IsDistribution net.channels ds → HasInputs (bound net ds) }
+    ensures incident { (net : Net) (ds : List (Option ℕ)) (a i : ℕ) → i < length (bound net ds).channels → (channel_at (bound net ds) i).target ≡ a → IsIncident net a }
 {}

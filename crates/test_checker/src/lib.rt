@@ -4,4 +4,6 @@
 #[cfg(test)]
 mod rates;
 #[cfg(test)]
+mod texts;
+#[cfg(test)]
 mod trade_offs;

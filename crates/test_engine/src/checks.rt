@@ -3,6 +3,7 @@ ghost use Rattle.sd_base.specs.Schedules.{HasInputs};
 ghost use Rattle.sd_base.specs.Untimed.{IsLive};
 ghost use Rattle.lasso.specs.LoopAnswers.{IsFound};
 
+use completion::{Completion, complete};
 use event_loops::loop_by_events;
 use firing::{Firing, LoopTable, Wired, Wiring};
 use lasso::{RunError, run_loop};
@@ -68,6 +69,23 @@ pub(crate) fn run_by_events<F: Firing>(
         wiring: &wiring,
     };
     Ok(loop_by_events(alloc, &wired, states))
+}
+
+/// The least time for some rounds of a net, which must go on for ever.
+pub(crate) fn completed<F: Firing>(
+    rt: &impl Abort,
+    alloc: Global,
+    net: &F,
+    rounds: u64,
+) -> Result<Completion, Fail> {
+    assert!(rt; is_live(alloc, net)?);
+    assert!(rt; is_joined(net));
+    assert!(rt; is_fed(net));
+    assert!(rt; 1 <= rounds && rounds <= 1_000_000);
+    let mut steps = Steps::new(Runs);
+    let answer = complete(alloc, net, rounds, 20_000, &mut steps);
+    let Runs = steps.finish();
+    Ok(answer?)
 }
 
 /// Whether a round of a net can be completed.

@@ -1,9 +1,9 @@
 ghost use Rattle.std.specs.Prelude.{◌≤◌, ◌^◌, ◌<◌};
 
+use crate::checks::is_live;
 use crate::engine_tests::half_blocked;
 use crate::run::{PlainRun, run_until};
 use firing::{Firing, SdfNet, Wired, Wiring};
-use liveness::{Round, one_round};
 use selftimed::{Engine, Move, Shape, Stage};
 use std::alloc::Global;
 use std::process::Abort;
@@ -25,13 +25,31 @@ pub(crate) fn compare<F: Firing>(
     let Some(plain) = run_until(alloc, net, last)? else {
         panic!(rt; "too many starts");
     };
+    compare_with(rt, alloc, net, &plain, last)
+}
+
+/// Steps an engine of a net up to a moment, and compares each event with a plain run of the net.
+fn compare_with<F: Firing>(
+    rt: &impl Abort,
+    alloc: Global,
+    net: &F,
+    plain: &PlainRun,
+    last: u64,
+) -> Result<bool, Fail>
+    requires { last < 2 ^ 62 }
+{
     let wiring = Wiring::new(alloc, net)?;
     let wired = Wired {
         net,
         wiring: &wiring,
     };
     let mut engine = Engine::of_wired(alloc, &wired, 1_000_000)?;
-    compare_on(rt, alloc, &mut engine, &plain, last)
+    compare_on(rt, alloc, &mut engine, plain, last)
+}
+
+/// Compares an engine of a net with the plain run up to moment 60. Tells whether the execution goes on.
+fn goes_on(rt: &impl Abort, alloc: Global, net: SdfNet) -> Result<bool, Fail> {
+    compare(rt, alloc, &net, 60)
 }
 
 /// Steps an engine that stands before its first event, and compares each with the plain run.
@@ -71,17 +89,13 @@ fn compare_event<F: Firing>(
 ) -> Result<(), Fail> {
     compare_starts(rt, engine, plain, event);
     let shape = plain.shape_at(alloc, engine.net, event)?;
-    compare_shapes(rt, alloc, engine, &shape, event)
+    compare_shapes(rt, alloc, engine, &shape)
 }
 
 fn compare_starts<F: Firing>(rt: &impl Abort, engine: &Engine<'_, F>, plain: &PlainRun, now: u64) {
     for actor in 0..engine.net.actors() {
         let started = engine.started(actor);
-        assert_eq!(rt;
-            started,
-            plain.started_by(actor, now) as u64,
-            "actor {actor} at {now}"
-        );
+        assert!(rt; started == plain.started_by(actor, now) as u64);
     }
 }
 
@@ -90,37 +104,32 @@ fn compare_shapes<F: Firing>(
     alloc: Global,
     engine: &Engine<'_, F>,
     want: &Shape,
-    now: u64,
 ) -> Result<(), Fail> {
     assert!(rt; engine.stage == Stage::Running);
     assert!(rt; engine.same_shape(want));
     let shape = engine.shape(alloc)?;
-    compare_lists(rt, &shape, want, now);
+    compare_lists(rt, &shape, want);
     Ok(())
 }
 
-fn compare_lists(rt: &impl Abort, shape: &Shape, want: &Shape, now: u64) {
-    assert_eq!(rt; shape.tokens.as_slice(), want.tokens.as_slice(), "at {now}");
-    assert_eq!(rt; shape.phases.as_slice(), want.phases.as_slice(), "at {now}");
+fn compare_lists(rt: &impl Abort, shape: &Shape, want: &Shape) {
+    assert!(rt; shape.tokens.as_slice() == want.tokens.as_slice());
+    assert!(rt; shape.phases.as_slice() == want.phases.as_slice());
     let left = shape.remaining.as_slice();
     assert!(rt; left.len() == want.remaining.len());
     for (actor, times) in want.remaining.as_slice().iter().enumerate() {
-        assert_eq!(rt;
-            left[actor].as_slice(),
-            times.as_slice(),
-            "actor {actor} at {now}"
-        );
+        assert!(rt; left[actor].as_slice() == times.as_slice());
     }
 }
 
 #[test]
 fn the_engine_runs_as_the_plain_program(rt: HostRuntime) -> Result<(), Fail> {
     let alloc = rt.alloc();
-    assert!(rt; compare(&rt, alloc, &ring_of_two(alloc)?, 60)?);
-    assert!(rt; compare(&rt, alloc, &three_at_once(alloc)?, 60)?);
-    assert!(rt; compare(&rt, alloc, &multi_rate_ring(alloc)?, 60)?);
-    assert!(rt; !compare(&rt, alloc, &blocked_pair(alloc)?, 60)?);
-    assert!(rt; !compare(&rt, alloc, &half_blocked(alloc)?, 60)?);
+    assert!(rt; goes_on(&rt, alloc, ring_of_two(alloc)?)?);
+    assert!(rt; goes_on(&rt, alloc, three_at_once(alloc)?)?);
+    assert!(rt; goes_on(&rt, alloc, multi_rate_ring(alloc)?)?);
+    assert!(rt; !goes_on(&rt, alloc, blocked_pair(alloc)?)?);
+    assert!(rt; !goes_on(&rt, alloc, half_blocked(alloc)?)?);
     Ok(())
 }
 
@@ -151,26 +160,32 @@ fn channels_of_an_actor_to_itself_run_as_the_plain_program(rt: HostRuntime) -> R
         ([1, 2, 0], false),
     ];
     for (tokens, fires) in cases {
-        let goes_on = compare(&rt, alloc, &three_self_loops(alloc, tokens)?, 60)?;
-        assert_eq!(rt; goes_on, fires, "tokens {tokens:?}");
+        let net = three_self_loops(alloc, tokens)?;
+        let goes_on = goes_on(&rt, alloc, net)?;
+        assert!(rt; goes_on == fires);
     }
     Ok(())
 }
 
-/// A net can go on exactly where a round of it can be completed.
+/// Compares an engine of a net with the plain run. Tells whether the execution goes on, which it does exactly where a round of
+/// the net can be completed.
+fn is_live_and_goes_on(rt: &impl Abort, alloc: Global, net: SdfNet) -> Result<bool, Fail> {
+    let is_live = is_live(alloc, &net)?;
+    let goes_on = compare(rt, alloc, &net, 60)?;
+    assert!(rt; goes_on == is_live);
+    Ok(is_live)
+}
+
 #[test]
 fn drawn_nets_run_as_the_plain_program(rt: HostRuntime) -> Result<(), Fail> {
     let alloc = rt.alloc();
-    let mut live = Vec::new(alloc);
-    for seed in 0..60u32 {
-        let net = drawn_net(alloc, seed as u64)?;
-        let goes_on = compare(&rt, alloc, &net, 60)?;
-        let is_live = matches!(one_round(alloc, &net)?, Round::Live { .. });
-        assert_eq!(rt; goes_on, is_live, "seed {seed}");
-        if is_live {
-            live.push(seed)?;
+    let mut live = 0u32;
+    for seed in 0..60 {
+        let net = drawn_net(alloc, seed)?;
+        if is_live_and_goes_on(&rt, alloc, net)? {
+            live = live.saturating_add(1);
         }
     }
-    assert!(rt; 15 <= live.len() && live.len() <= 45, "live: {live:?}");
+    assert!(rt; (15..=45).contains(&live), "live: {live}");
     Ok(())
 }

@@ -2,6 +2,7 @@ use critical::{CycleStep, CycleSteps, FiringNo, NeedCycle};
 use firing::SdfNet;
 use sd_base::NoMemory;
 use std::alloc::Global;
+use std::process::Abort;
 use std::test::Fail;
 use test_nets::ring_of_two;
 
@@ -54,41 +55,49 @@ fn cycle(
     })
 }
 
-/// Whether the steps from firing 0 of x are a need cycle.
+/// Whether the steps from a firing are a need cycle.
 fn leads_round(
     alloc: Global,
     net: &SdfNet,
+    first: FiringNo,
     steps: &[CycleStep],
     time: u64,
     rounds: u64,
 ) -> Result<bool, NoMemory> {
-    Ok(cycle(alloc, x(0), steps, time, rounds)?.holds(net))
+    let cycle = cycle(alloc, first, steps, time, rounds)?;
+    Ok(cycle.holds(net))
 }
 
 /// Firing k of y needs firing k of x, of time 2, and firing k + 1 of x needs firing k of y, of time 3.
 #[test]
 fn ring_of_two_has_its_need_cycle(rt: HostRuntime) -> Result<(), Fail> {
-    let alloc = rt.alloc();
-    let net = ring_of_two(alloc)?;
-    assert!(rt; leads_round(alloc, &net, &once_round(), 5, 1)?);
+    let net = ring_of_two(rt.alloc())?;
+    check_right(&rt, rt.alloc(), &net)
+}
+
+fn check_right(rt: &impl Abort, alloc: Global, net: &SdfNet) -> Result<(), Fail> {
+    assert!(rt; leads_round(alloc, net, x(0), &once_round(), 5, 1)?);
     let twice = [
         along(XY, y(0)),
         along(YX, x(1)),
         along(XY, y(1)),
         along(YX, x(2)),
     ];
-    assert!(rt; leads_round(alloc, &net, &twice, 10, 2)?);
-    let later = cycle(alloc, x(7), &[along(XY, y(7)), along(YX, x(8))], 5, 1)?;
-    assert!(rt; later.holds(&net));
-    let from_y = cycle(alloc, y(0), &[along(YX, x(1)), along(XY, y(1))], 5, 1)?;
-    assert!(rt; from_y.holds(&net));
+    assert!(rt; leads_round(alloc, net, x(0), &twice, 10, 2)?);
+    let later = [along(XY, y(7)), along(YX, x(8))];
+    assert!(rt; leads_round(alloc, net, x(7), &later, 5, 1)?);
+    let from_y = [along(YX, x(1)), along(XY, y(1))];
+    assert!(rt; leads_round(alloc, net, y(0), &from_y, 5, 1)?);
     Ok(())
 }
 
 #[test]
 fn ring_of_two_has_no_other_need_cycle(rt: HostRuntime) -> Result<(), Fail> {
-    let alloc = rt.alloc();
-    let net = ring_of_two(alloc)?;
+    let net = ring_of_two(rt.alloc())?;
+    check_wrong(&rt, rt.alloc(), &net)
+}
+
+fn check_wrong(rt: &impl Abort, alloc: Global, net: &SdfNet) -> Result<(), Fail> {
     let wrong = [
         // The time and the rounds are others.
         (once_round(), 4, 1),
@@ -104,14 +113,14 @@ fn ring_of_two_has_no_other_need_cycle(rt: HostRuntime) -> Result<(), Fail> {
         ([along(XY, y(0)), along(YX, x(2))], 5, 2),
     ];
     for (steps, time, rounds) in &wrong {
-        let holds = leads_round(alloc, &net, steps, *time, *rounds)?;
-        assert!(rt; !holds, "{steps:?} in {time} for {rounds}");
+        let holds = leads_round(alloc, net, x(0), steps, *time, *rounds)?;
+        assert!(rt; !holds);
     }
     assert!(rt;
-        !leads_round(alloc, &net, &[along(XY, y(0))], 2, 1)?,
+        !leads_round(alloc, net, x(0), &[along(XY, y(0))], 2, 1)?,
         "to y"
     );
-    assert!(rt; !leads_round(alloc, &net, &[], 0, 1)?, "nowhere");
+    assert!(rt; !leads_round(alloc, net, x(0), &[], 0, 1)?, "nowhere");
     Ok(())
 }
 

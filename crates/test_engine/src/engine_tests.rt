@@ -2,6 +2,7 @@ ghost use Rattle.std.specs.Prelude.{◌^◌, ◌≤◌};
 
 use firing::{Firing, SdfNet, Wired, Wiring};
 use liveness::{Round, one_round};
+use sd_base::NoMemory;
 use selftimed::{Engine, Move, Shape, Stage};
 use std::alloc::Global;
 use std::process::Abort;
@@ -10,7 +11,7 @@ use test_nets::{blocked_pair, channel, multi_rate_ring, ring_of_two, table_net, 
 
 /// What stands at an event after its starts: by actor how many firings have started, by channel the tokens, by actor the
 /// times that its running firings have left, and by actor the phase of its next firing, if any isn't the first one.
-#[derive(Clone, Copy, Debug)]
+#[derive(Clone, Copy)]
 pub(crate) struct Event<'a> {
     pub(crate) moment: u64,
     pub(crate) started: &'a [u64],
@@ -55,7 +56,7 @@ fn follow_on<F: Firing>(
 ) -> Result<(), Fail> {
     for event in events {
         let step = engine.advance()?;
-        assert_eq!(rt; step, Move::Stepped, "to {}", event.moment);
+        assert!(rt; step == Move::Stepped);
         assert!(rt; engine.moment() == event.moment);
         check_starts(rt, engine, event);
         check_shape(rt, alloc, engine, event)?;
@@ -66,12 +67,7 @@ fn follow_on<F: Firing>(
 fn check_starts<F: Firing>(rt: &impl Abort, engine: &Engine<'_, F>, event: &Event) {
     assert!(rt; event.started.len() == engine.net.actors() as usize);
     for (actor, started) in event.started.iter().enumerate() {
-        assert_eq!(rt;
-            engine.started(actor as u32),
-            *started,
-            "actor {actor} at {}",
-            event.moment
-        );
+        assert!(rt; engine.started(actor as u32) == *started);
     }
 }
 
@@ -89,13 +85,12 @@ fn check_shape<F: Firing>(
 }
 
 fn check_lists(rt: &impl Abort, shape: &Shape, event: &Event) {
-    let moment = event.moment;
-    assert_eq!(rt; shape.tokens.as_slice(), event.tokens, "at {moment}");
+    assert!(rt; shape.tokens.as_slice() == event.tokens);
     check_phases(rt, shape.phases.as_slice(), event.phases);
     let left = shape.remaining.as_slice();
     assert!(rt; left.len() == event.left.len());
     for (actor, times) in event.left.iter().enumerate() {
-        assert_eq!(rt; left[actor].as_slice(), *times, "actor {actor} at {moment}");
+        assert!(rt; left[actor].as_slice() == *times);
     }
 }
 
@@ -113,15 +108,30 @@ fn check_phases(rt: &impl Abort, phases: &[u32], wanted: &[u32]) {
 fn an_engine_has_a_shape_before_its_first_event(rt: HostRuntime) -> Result<(), Fail> {
     let net = ring_of_two(rt.alloc())?;
     let mut engine = Engine::new(rt.alloc(), &net, 1000)?;
-    let first = engine.shape(rt.alloc())?;
-    assert_eq!(rt; first.tokens.as_slice(), [0, 1].as_slice());
-    assert_eq!(rt; first.phases.as_slice(), [0, 0].as_slice());
-    assert!(rt; first.remaining.as_slice().iter().all(|row| row.is_empty()));
-    assert_eq!(rt; first.remaining.len(), 2);
+    step_from_first(&rt, rt.alloc(), &mut engine)
+}
+
+fn step_from_first(
+    rt: &impl Abort,
+    alloc: Global,
+    engine: &mut Engine<'_, SdfNet>,
+) -> Result<(), Fail> {
+    assert!(rt; engine.stage == Stage::Fresh);
+    let first = engine.shape(alloc)?;
+    check_first(rt, &first);
     assert!(rt; engine.same_shape(&first));
-    assert_eq!(rt; engine.advance()?, Move::Stepped);
+    let step = engine.advance()?;
+    assert!(rt; step == Move::Stepped);
+    assert!(rt; engine.stage == Stage::Running);
     assert!(rt; !engine.same_shape(&first));
     Ok(())
+}
+
+fn check_first(rt: &impl Abort, shape: &Shape) {
+    assert!(rt; shape.tokens.as_slice() == [0, 1].as_slice());
+    assert!(rt; shape.phases.as_slice() == [0, 0].as_slice());
+    assert!(rt; shape.remaining.len() == 2);
+    assert!(rt; shape.remaining.as_slice().iter().all(|row| row.is_empty()));
 }
 
 // By hand. In the ring x starts at 0 with the one token, ends at 2 and lets y start, which ends at 5 and lets x start. Three
@@ -184,10 +194,10 @@ pub(crate) fn half_blocked(alloc: Global) -> Result<SdfNet, test_nets::TableErro
 fn moves(
     rt: &impl Abort,
     alloc: Global,
-    net: &SdfNet,
+    net: SdfNet,
     wanted: &[Move],
 ) -> Result<(u64, Stage), Fail> {
-    let mut engine = Engine::new(alloc, net, 1000)?;
+    let mut engine = Engine::new(alloc, &net, 1000)?;
     move_on(rt, &mut engine, wanted)?;
     Ok((engine.moment(), engine.stage))
 }
@@ -202,25 +212,25 @@ fn move_on(rt: &impl Abort, engine: &mut Engine<'_, SdfNet>, wanted: &[Move]) ->
 
 #[test]
 fn what_cannot_start_is_stuck(rt: HostRuntime) -> Result<(), Fail> {
-    let pair = blocked_pair(rt.alloc())?;
     for calls in 1..3 {
         let stuck = [Move::Stuck, Move::Stuck];
-        let (_, stage) = moves(&rt, rt.alloc(), &pair, &stuck[..calls])?;
-        assert_eq!(rt; stage, Stage::Fresh, "after {calls}");
+        let pair = blocked_pair(rt.alloc())?;
+        let (_, stage) = moves(&rt, rt.alloc(), pair, &stuck[..calls])?;
+        assert!(rt; stage == Stage::Fresh);
     }
     // The second and the third actor start at 0 and end at 1.
     let half = half_blocked(rt.alloc())?;
     let steps = [Move::Stepped, Move::Stepped, Move::Stuck, Move::Stuck];
-    let (moment, _) = moves(&rt, rt.alloc(), &half, &steps)?;
+    let (moment, _) = moves(&rt, rt.alloc(), half, &steps)?;
     assert!(rt; moment == 1);
     Ok(())
 }
 
 /// Whether an engine of at most `most` starts steps so often, and is spent from then on.
-fn is_spent_after(alloc: Global, net: &SdfNet, most: u64, steps: u32) -> Result<bool, Fail>
+fn is_spent_after(alloc: Global, net: SdfNet, most: u64, steps: u32) -> Result<bool, Fail>
     requires { most ≤ 2 ^ 32 }
 {
-    let mut engine = Engine::new(alloc, net, most)?;
+    let mut engine = Engine::new(alloc, &net, most)?;
     Ok(goes_on(&mut engine, steps, Move::Stepped)? && goes_on(&mut engine, 3, Move::Spent)?)
 }
 
@@ -237,56 +247,74 @@ fn goes_on(engine: &mut Engine<'_, SdfNet>, steps: u32, same: Move) -> Result<bo
 #[test]
 fn too_many_starts_spend_an_engine(rt: HostRuntime) -> Result<(), Fail> {
     let alloc = rt.alloc();
-    let ring = ring_of_two(alloc)?;
-    assert!(rt; is_spent_after(alloc, &ring, 0, 0)?);
-    assert!(rt; is_spent_after(alloc, &ring, 2, 2)?, "starts at 0, 2 and 5");
-    let three = three_at_once(alloc)?;
-    assert!(rt; is_spent_after(alloc, &three, 2, 0)?);
-    assert!(rt; is_spent_after(alloc, &three, 5, 1)?);
+    assert!(rt; is_spent_after(alloc, ring_of_two(alloc)?, 0, 0)?);
+    assert!(rt;
+        is_spent_after(alloc, ring_of_two(alloc)?, 2, 2)?,
+        "starts at 0, 2 and 5"
+    );
+    assert!(rt; is_spent_after(alloc, three_at_once(alloc)?, 2, 0)?);
+    assert!(rt; is_spent_after(alloc, three_at_once(alloc)?, 5, 1)?);
     let no_input = table_net(alloc, &[1, 1], &[channel(0, 1, 1, 1, 0)], false)?;
-    assert!(rt; is_spent_after(alloc, &no_input, 1000, 0)?);
+    assert!(rt; is_spent_after(alloc, no_input, 1000, 0)?);
     Ok(())
 }
 
-fn order_of(rt: &impl Abort, alloc: Global, net: &SdfNet) -> Result<Vec<u32>, Fail> {
-    match one_round(alloc, net)? {
-        Round::Live { order } => Ok(order.into_vec()),
-        Round::Blocked { .. } => panic!(rt; "blocked"),
-    }
+/// Whether a round of a net is completed by firings of these actors, one after another.
+pub(crate) fn fires<F: Firing>(alloc: Global, net: &F, wanted: &[u32]) -> Result<bool, NoMemory> {
+    let round = one_round(alloc, net)?;
+    Ok(match &round {
+        Round::Live { order } => order.as_slice() == wanted,
+        Round::Blocked { .. } => false,
+    })
+}
+
+/// Whether a round of a net is blocked after so many firings of each actor, which then lacks tokens on these channels.
+fn is_blocked(
+    alloc: Global,
+    net: &SdfNet,
+    wanted: &[u64],
+    lacking: &[Option<u32>],
+) -> Result<bool, NoMemory> {
+    let round = one_round(alloc, net)?;
+    Ok(match &round {
+        Round::Live { .. } => false,
+        Round::Blocked { counts, lacks } => {
+            counts.as_slice() == wanted && lacks.as_slice() == lacking
+        }
+    })
+}
+
+fn check_order(rt: &impl Abort, alloc: Global, net: SdfNet, wanted: &[u32]) -> Result<(), Fail> {
+    let fires = fires(alloc, &net, wanted)?;
+    assert!(rt; fires);
+    Ok(())
 }
 
 fn check_block(
     rt: &impl Abort,
     alloc: Global,
-    net: &SdfNet,
-    want: &[u64],
+    net: SdfNet,
+    wanted: &[u64],
     lacking: &[Option<u32>],
 ) -> Result<(), Fail> {
-    let Round::Blocked { counts, lacks } = one_round(alloc, net)? else {
-        panic!(rt; "live");
-    };
-    assert!(rt; counts.as_slice() == want);
-    assert!(rt; lacks.as_slice() == lacking);
+    let is_blocked = is_blocked(alloc, &net, wanted, lacking)?;
+    assert!(rt; is_blocked);
     Ok(())
 }
 
 #[test]
 fn one_round_fires_each_actor_as_often_as_its_round(rt: HostRuntime) -> Result<(), Fail> {
     let alloc = rt.alloc();
-    let order = order_of(&rt, alloc, &ring_of_two(alloc)?)?;
-    assert!(rt; order.as_slice() == [0, 1].as_slice());
-    let order = order_of(&rt, alloc, &three_at_once(alloc)?)?;
-    assert!(rt; order.as_slice() == [0].as_slice());
-    let order = order_of(&rt, alloc, &multi_rate_ring(alloc)?)?;
-    assert!(rt; order.as_slice() == [0, 1, 1].as_slice());
-    Ok(())
+    check_order(&rt, alloc, ring_of_two(alloc)?, &[0, 1])?;
+    check_order(&rt, alloc, three_at_once(alloc)?, &[0])?;
+    check_order(&rt, alloc, multi_rate_ring(alloc)?, &[0, 1, 1])
 }
 
 #[test]
 fn blocked_rounds_name_the_first_channels_that_lack(rt: HostRuntime) -> Result<(), Fail> {
     let alloc = rt.alloc();
     let pair = blocked_pair(alloc)?;
-    check_block(&rt, alloc, &pair, &[0, 0], &[Some(1), Some(0)])?;
+    check_block(&rt, alloc, pair, &[0, 0], &[Some(1), Some(0)])?;
     let half = half_blocked(alloc)?;
-    check_block(&rt, alloc, &half, &[0, 1, 1], &[Some(1), Some(0), None])
+    check_block(&rt, alloc, half, &[0, 1, 1], &[Some(1), Some(0), None])
 }

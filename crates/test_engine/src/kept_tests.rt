@@ -139,32 +139,48 @@ fn check_row(rt: &impl Abort, row: &[u64], seen: &[Seen], actor: usize) {
 fn check_answer(
     rt: &impl Abort,
     net: &SdfNet,
-    answer: &Result<LoopTable, RunError>,
+    answer: Result<LoopTable, RunError>,
     seen: &[Seen],
     before: Option<usize>,
 ) {
-    match (answer, before) {
+    match (&answer, before) {
         (Ok(table), Some(from)) => check_table(rt, net, table, seen, from),
         (Err(RunError::StatesSpent), None) => {}
-        (_answer, _before) => panic!(rt; "they differ with {} shapes", seen.len()),
+        (_answer, _before) => panic!(rt; "they differ"),
     }
 }
 
 /// Asserts that with each of 1 to 20 shapes allowed the loop is the one that keeping all shapes finds, whether it is searched by
 /// needs first or by events alone.
-fn compare_to_20(rt: &impl Abort, alloc: Global, net: &SdfNet) -> Result<(), Fail> {
+fn compare_to_20(rt: &impl Abort, alloc: Global, net: SdfNet) -> Result<(), Fail> {
     for states in 1..21 {
-        let (seen, before) = keep_all(rt, alloc, net, states)?;
-        let answer = run_net(rt, alloc, net, states)?;
-        check_answer(rt, net, &answer, seen.as_slice(), before);
-        let by_events = run_by_events(rt, alloc, net, states)?;
-        check_answer(rt, net, &by_events, seen.as_slice(), before);
+        let (seen, before) = keep_all(rt, alloc, &net, states)?;
+        compare_searches(rt, alloc, &net, seen.as_slice(), before, states)?;
     }
+    Ok(())
+}
+
+fn compare_searches(
+    rt: &impl Abort,
+    alloc: Global,
+    net: &SdfNet,
+    seen: &[Seen],
+    before: Option<usize>,
+    states: u64,
+) -> Result<(), Fail> {
+    check_answer(rt, net, run_net(rt, alloc, net, states)?, seen, before);
+    check_answer(
+        rt,
+        net,
+        run_by_events(rt, alloc, net, states)?,
+        seen,
+        before,
+    );
     Ok(())
 }
 
 #[test]
 fn loops_are_those_of_the_body_that_keeps_all_shapes(rt: HostRuntime) -> Result<(), Fail> {
-    compare_to_20(&rt, rt.alloc(), &ring_of_two(rt.alloc())?)?;
-    compare_to_20(&rt, rt.alloc(), &multi_rate_ring(rt.alloc())?)
+    compare_to_20(&rt, rt.alloc(), ring_of_two(rt.alloc())?)?;
+    compare_to_20(&rt, rt.alloc(), multi_rate_ring(rt.alloc())?)
 }

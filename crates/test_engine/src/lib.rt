@@ -8,6 +8,8 @@ mod checks;
 #[cfg(test)]
 mod compare_tests;
 #[cfg(test)]
+mod completion_tests;
+#[cfg(test)]
 mod cycle_tests;
 #[cfg(test)]
 mod engine_tests;

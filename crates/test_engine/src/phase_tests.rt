@@ -1,7 +1,6 @@
 use crate::compare_tests::compare;
-use crate::engine_tests::{Event, follow};
+use crate::engine_tests::{Event, fires, follow};
 use crate::phase_net::two_phases;
-use liveness::{Round, one_round};
 use std::test::Fail;
 
 /// An event of the net of two actors, of which the first one has phases.
@@ -41,9 +40,7 @@ fn phases_run_as_in_the_plain_program(rt: HostRuntime) -> Result<(), Fail> {
     let net = two_phases(rt.alloc())?;
     let goes_on = compare(&rt, rt.alloc(), &net, 60)?;
     assert!(rt; goes_on);
-    let Round::Live { order } = one_round(rt.alloc(), &net)? else {
-        panic!(rt; "blocked");
-    };
-    assert!(rt; order.as_slice() == [0, 0, 1, 1, 1].as_slice());
+    let fires = fires(rt.alloc(), &net, &[0, 0, 1, 1, 1])?;
+    assert!(rt; fires);
     Ok(())
 }

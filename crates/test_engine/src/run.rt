@@ -11,7 +11,7 @@ use std::alloc::Global;
 const MOST: usize = 1_000_000;
 
 /// A firing: its actor, and the moments at which it starts and ends.
-#[derive(Clone, Copy, Debug)]
+#[derive(Clone, Copy)]
 struct Span {
     actor: u32,
     start: u64,
@@ -20,7 +20,7 @@ struct Span {
 
 /// The firings that start in an execution from moment 0 on, each as soon as all firings that it needs have ended.
 /// Those of one actor stand in their order.
-#[derive(Debug, Drop)]
+#[derive(Drop)]
 pub(crate) struct PlainRun {
     spans: Vec<Span>,
     ghost few: { length spans.items ≤ MOST },

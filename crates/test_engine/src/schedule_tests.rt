@@ -10,7 +10,7 @@ use std::test::Fail;
 use test_nets::{ring_of_two, three_at_once};
 
 /// A periodic schedule: its period and rounds, and by actor the starts.
-#[derive(Clone, Copy, Debug)]
+#[derive(Clone, Copy)]
 struct Given<'a> {
     period: u64,
     rounds: u64,
@@ -59,7 +59,7 @@ fn check(
             rounds: schedule.rounds,
             starts: rows(alloc, schedule.starts)?,
         };
-        assert_eq!(rt; periodic.holds(net), wanted, "{schedule:?}");
+        assert!(rt; periodic.holds(net) == wanted);
     }
     Ok(())
 }

@@ -1,2 +1,2 @@
-pub mod Joined
-pub mod Fitting
+pub mod NeighboursConnect
+pub mod EntriesFormDistribution

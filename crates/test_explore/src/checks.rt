@@ -6,7 +6,7 @@ ghost use Rattle.storage.specs.Distributions.{IsPlain};
 ghost use Rattle.explore.specs.Reachable.{IsExplorable};
 ghost use Rattle.test_explore.specs.Neighbours.{AreJoined, JoinsAt, NeighboursAreJoined};
 
-use explore::laws::touched_nets_are_explorable;
+use explore::laws::incident_nets_are_explorable;
 use explore::{Exploration, ExploreError, explore};
 use fanout::Gate;
 use firing::{Firing, know_laws};
@@ -48,7 +48,7 @@ pub(crate) fn is_explorable<F: Firing>(net: &F) -> bool
     ensures { result ≡ true → IsExplorable (F.net net.now) }
 {
     know_laws(net);
-    touched_nets_are_explorable();
+    incident_nets_are_explorable();
     if net.actors() < 2 || 2 * u64::from(net.channels()) > NET_CHANNELS {
         return false;
     }

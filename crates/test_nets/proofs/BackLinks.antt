@@ -2,7 +2,7 @@
 use Rattle.std.proofs.Common.{ℕ, zero, suc, ◌<◌, ◌≤◌, [], ◌∷◌, ◌++◌, length, inl, inr, refl, arith, below_more}
 use Rattle.sd_base.specs.Net.{Net, channel_at}
 use Rattle.sd_base.specs.Connection.{Meets, IsConnected, ends_of}
-use Rattle.sd_base.proofs.Connections.{pair-of, walk-append}
+use Rattle.sd_base.proofs.PathsAreWalks.{pair-of, walk-append}
 use Rattle.test_nets.specs.Ends.{LinksBack, AreLinkedBack}
 
 module _ (net : Net) where

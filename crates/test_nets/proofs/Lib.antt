@@ -1,2 +1,2 @@
 pub mod BackLinks
-pub mod Rates
+pub mod RatesMoveTokens

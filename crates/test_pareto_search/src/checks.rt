@@ -5,7 +5,7 @@ ghost use Rattle.sd_base.specs.Lawful.{is_token_role, is_space_role};
 ghost use Rattle.storage.specs.Distributions.{IsPlain};
 ghost use Rattle.explore.specs.Reachable.{IsExplorable};
 
-use explore::laws::touched_nets_are_explorable;
+use explore::laws::incident_nets_are_explorable;
 use firing::{Firing, know_laws};
 use sd_base::limits::{
     DISTRIBUTIONS, LEAST_DISTRIBUTIONS, LEAST_STATES, NET_CHANNELS, STATES, STORAGE,
@@ -37,7 +37,7 @@ fn is_explorable<F: Firing>(net: &F) -> bool
     ensures { result ≡ true → IsExplorable (F.net net.now) }
 {
     know_laws(net);
-    touched_nets_are_explorable();
+    incident_nets_are_explorable();
     if net.actors() < 2 || 2 * u64::from(net.channels()) > NET_CHANNELS {
         return false;
     }

@@ -18,3 +18,5 @@ mod nets;
 mod noting;
 #[cfg(test)]
 mod searches;
+#[cfg(test)]
+mod wait_tests;

@@ -29,3 +29,9 @@ pub(crate) fn twin_channels(alloc: Global) -> Result<SdfNet, TableError> {
     let lines = [channel(0, 1, 1, 1, 0), channel(0, 1, 1, 1, 0)];
     table_net(alloc, &[1, 1], &lines, true)
 }
+
+/// So many channels `a 2 -> 3 b` with times 1, in which no firings of an actor overlap.
+pub(crate) fn parallel_channels(alloc: Global, many: usize) -> Result<SdfNet, TableError> {
+    let lines = vec![in alloc; channel(0, 2, 3, 1, 0); many]?;
+    table_net(alloc, &[1, 1], lines.as_slice(), true)
+}

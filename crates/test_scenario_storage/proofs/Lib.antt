@@ -1,2 +1,2 @@
-mod Walks
-mod Bounding
+mod TestsHoldForAll
+mod TestedCanBeBounded

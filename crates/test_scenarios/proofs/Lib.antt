@@ -1,3 +1,3 @@
-pub mod Further
-pub mod Begins
-pub mod Onward
+pub mod PrefixesExtend
+pub mod FirstChannelsShare
+pub mod WalksOutgrowNumbers

@@ -4,9 +4,24 @@ use crate::timed::{is_sound, timed};
 use cert_checker::{Claim, Reason, Verdict, check_scenario};
 use cert_text::ScenarioCertificate;
 use sd_base::{Fraction, NoMemory, Rows};
-use std::alloc::Global;
+use std::alloc::{AllocError, Global};
 use std::process::Abort;
 use std::test::Fail;
+
+/// The certificate of a cycle through both tokens that takes a time, and of potentials.
+fn certificate(
+    alloc: Global,
+    time: u64,
+    potentials: &[(u32, u32, i128)],
+) -> Result<ScenarioCertificate, AllocError> {
+    let nodes: &[(u32, u32)] = &[(0, 0), (0, 1), (0, 0)];
+    Ok(ScenarioCertificate {
+        rate: (1, 3),
+        time,
+        nodes: Rows::from_vec(Vec::from_slice(alloc, nodes)?),
+        potentials: Rows::from_vec(Vec::from_slice(alloc, potentials)?),
+    })
+}
 
 /// The verdict on a cycle that takes a time and on potentials.
 fn verdict(
@@ -16,13 +31,7 @@ fn verdict(
     potentials: &[(u32, u32, i128)],
 ) -> Result<Verdict, NoMemory> {
     let graph = timed(alloc, 2, 1, 0, &[(0, 1, 2), (1, 0, 4)])?;
-    let nodes: &[(u32, u32)] = &[(0, 0), (0, 1), (0, 0)];
-    let certificate = ScenarioCertificate {
-        rate: (1, 3),
-        time,
-        nodes: Rows::from_vec(Vec::from_slice(alloc, nodes)?),
-        potentials: Rows::from_vec(Vec::from_slice(alloc, potentials)?),
-    };
+    let certificate = certificate(alloc, time, potentials)?;
     assert!(rt; is_sound(&graph));
     check_scenario(alloc, &graph, &certificate, 2)
 }
@@ -31,7 +40,7 @@ fn verdict(
 fn potentials_that_fit_are_accepted(rt: HostRuntime) -> Result<(), Fail> {
     let verdict = verdict(&rt, rt.alloc(), 6, &[(0, 0, 1), (0, 1, 0)])?;
     let claim = Claim::Worst(Fraction::new(1, 3));
-    assert_eq!(rt; verdict, Verdict::Accepted(claim));
+    assert!(rt; verdict == Verdict::Accepted(claim));
     Ok(())
 }
 
@@ -39,7 +48,7 @@ fn potentials_that_fit_are_accepted(rt: HostRuntime) -> Result<(), Fail> {
 fn a_potential_too_low_is_rejected_at_its_line(rt: HostRuntime) -> Result<(), Fail> {
     let verdict = verdict(&rt, rt.alloc(), 6, &[(0, 0, 0), (0, 1, 0)])?;
     let (line, reason) = (8, Reason::Potential);
-    assert_eq!(rt; verdict, Verdict::Rejected { line, reason });
+    assert!(rt; verdict == Verdict::Rejected { line, reason });
     Ok(())
 }
 
@@ -47,7 +56,7 @@ fn a_potential_too_low_is_rejected_at_its_line(rt: HostRuntime) -> Result<(), Fa
 fn a_reachable_node_without_a_potential_is_missed(rt: HostRuntime) -> Result<(), Fail> {
     let verdict = verdict(&rt, rt.alloc(), 6, &[(0, 0, 1)])?;
     let (line, reason) = (7, Reason::Node);
-    assert_eq!(rt; verdict, Verdict::Rejected { line, reason });
+    assert!(rt; verdict == Verdict::Rejected { line, reason });
     Ok(())
 }
 
@@ -55,6 +64,6 @@ fn a_reachable_node_without_a_potential_is_missed(rt: HostRuntime) -> Result<(),
 fn a_cycle_of_another_time_is_rejected(rt: HostRuntime) -> Result<(), Fail> {
     let verdict = verdict(&rt, rt.alloc(), 5, &[(0, 0, 1), (0, 1, 0)])?;
     let (line, reason) = (4, Reason::Cycle);
-    assert_eq!(rt; verdict, Verdict::Rejected { line, reason });
+    assert!(rt; verdict == Verdict::Rejected { line, reason });
     Ok(())
 }

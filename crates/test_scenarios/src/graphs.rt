@@ -8,30 +8,48 @@ pub(crate) fn graph_of(
     times: &[u64],
     channels: &[(&str, Line)],
 ) -> Result<GraphFile, NoMemory> {
-    let mut actors = Rows::new(alloc);
-    for time in times {
-        actors.push(ActorRow {
-            name: Text::of(alloc, "a")?,
-            phases: 1,
-            times: single(alloc, *time)?,
-        })?;
-    }
-    let mut rows = Rows::new(alloc);
-    for (name, line) in channels {
-        rows.push(ChannelRow {
-            name: Text::of(alloc, name)?,
-            source: line.source,
-            target: line.target,
-            made: single(alloc, line.made)?,
-            taken: single(alloc, line.taken)?,
-            tokens: line.tokens,
-            size: line.size,
-        })?;
-    }
+    let actors = actor_rows(alloc, times)?;
+    let channels = channel_rows(alloc, channels)?;
     Ok(GraphFile {
         kind: Kind::Sdf,
         actors,
-        channels: rows,
+        channels,
+    })
+}
+
+fn actor_rows(alloc: Global, times: &[u64]) -> Result<Rows<ActorRow>, NoMemory> {
+    let mut rows = Rows::new(alloc);
+    for time in times {
+        rows.push(actor_row(alloc, *time)?)?;
+    }
+    Ok(rows)
+}
+
+fn actor_row(alloc: Global, time: u64) -> Result<ActorRow, NoMemory> {
+    Ok(ActorRow {
+        name: Text::of(alloc, "a")?,
+        phases: 1,
+        times: single(alloc, time)?,
+    })
+}
+
+fn channel_rows(alloc: Global, channels: &[(&str, Line)]) -> Result<Rows<ChannelRow>, NoMemory> {
+    let mut rows = Rows::new(alloc);
+    for (name, line) in channels {
+        rows.push(channel_row(alloc, name, line)?)?;
+    }
+    Ok(rows)
+}
+
+fn channel_row(alloc: Global, name: &str, line: &Line) -> Result<ChannelRow, NoMemory> {
+    Ok(ChannelRow {
+        name: Text::of(alloc, name)?,
+        source: line.source,
+        target: line.target,
+        made: single(alloc, line.made)?,
+        taken: single(alloc, line.taken)?,
+        tokens: line.tokens,
+        size: line.size,
     })
 }
 

@@ -1,10 +1,24 @@
 use crate::graphs::{graph_of, shared_rows};
 use crate::shared::matrix;
+use sd_base::NoMemory;
 use std::alloc::Global;
 use std::process::Abort;
 use std::test::Fail;
 use test_nets::{Line, channel};
-use token_matrix::{Entry, MatrixError};
+use token_matrix::{Entry, Matrix, MatrixError};
+
+/// The matrix of a graph by its times and channels, of which the first are shared, or why it has none.
+fn made(
+    rt: &impl Abort,
+    alloc: Global,
+    times: &[u64],
+    channels: &[(&str, Line)],
+    shared: &[(&str, u64)],
+) -> Result<Result<Matrix, MatrixError>, NoMemory> {
+    let graph = graph_of(alloc, times, channels)?;
+    let tokens = shared_rows(alloc, shared)?;
+    Ok(matrix(rt, alloc, &graph, tokens.as_slice()))
+}
 
 /// Asserts the rows of the matrix of a graph by its times and channels, of which the first are shared.
 fn check(
@@ -15,24 +29,24 @@ fn check(
     shared: &[(&str, u64)],
     rows: &[&[Option<u64>]],
 ) -> Result<(), Fail> {
-    let graph = graph_of(alloc, times, channels)?;
-    let tokens = shared_rows(alloc, shared)?;
-    match matrix(rt, alloc, &graph, tokens.as_slice()) {
-        Ok(found) => {
-            assert_eq!(rt; found.rows().len(), rows.len());
-            for (row, wanted) in found.rows().iter().zip(rows) {
-                check_row(rt, row.as_slice(), *wanted);
-            }
-            Ok(())
-        }
+    match made(rt, alloc, times, channels, shared)? {
+        Ok(found) => check_rows(rt, &found, rows),
         Err(_) => panic!(rt; "a graph without a matrix"),
+    }
+    Ok(())
+}
+
+fn check_rows(rt: &impl Abort, found: &Matrix, rows: &[&[Option<u64>]]) {
+    assert!(rt; found.rows().len() == rows.len());
+    for (row, wanted) in found.rows().iter().zip(rows) {
+        check_row(rt, row.as_slice(), *wanted);
     }
 }
 
 fn check_row(rt: &impl Abort, row: &[Entry], wanted: &[Option<u64>]) {
-    assert_eq!(rt; row.len(), wanted.len());
+    assert!(rt; row.len() == wanted.len());
     for (entry, wanted) in row.iter().zip(wanted) {
-        assert_eq!(rt; entry.get(), *wanted);
+        assert!(rt; entry.get() == *wanted);
     }
 }
 
@@ -94,6 +108,16 @@ fn each_firing_waits_for_what_it_takes(rt: HostRuntime) -> Result<(), Fail> {
     check(&rt, rt.alloc(), &[2, 3], &channels, &[("q", 6)], &rows)
 }
 
+/// Whether there is no matrix since a round is blocked, with these firings and channels by actor.
+fn is_blocked(made: &Result<Matrix, MatrixError>, wanted: &[u64], lacking: &[Option<u32>]) -> bool {
+    match made {
+        Err(MatrixError::Blocked { counts, lacks }) => {
+            counts.as_slice() == wanted && lacks.as_slice() == lacking
+        }
+        _ => false,
+    }
+}
+
 // x lacks tokens on u and y on t.
 #[test]
 fn a_blocked_round_tells_what_is_lacked(rt: HostRuntime) -> Result<(), Fail> {
@@ -102,16 +126,9 @@ fn a_blocked_round_tells_what_is_lacked(rt: HostRuntime) -> Result<(), Fail> {
         ("t", channel(0, 1, 1, 1, 0)),
         ("u", channel(1, 1, 1, 0, 0)),
     ];
-    let graph = graph_of(rt.alloc(), &[1, 1], &channels)?;
-    let tokens = shared_rows(rt.alloc(), &[("s", 1)])?;
-    match matrix(&rt, rt.alloc(), &graph, tokens.as_slice()) {
-        Err(MatrixError::Blocked { counts, lacks }) => {
-            assert_eq!(rt; counts.as_slice(), [0, 0].as_slice());
-            assert_eq!(rt; lacks.as_slice(), [Some(2), Some(1)].as_slice());
-            Ok(())
-        }
-        _ => panic!(&rt; "no round can be completed"),
-    }
+    let made = made(&rt, rt.alloc(), &[1, 1], &channels, &[("s", 1)])?;
+    assert!(rt; is_blocked(&made, &[0, 0], &[Some(2), Some(1)]));
+    Ok(())
 }
 
 // One firing times five million tokens is more than four million.
@@ -132,10 +149,7 @@ fn stamps_have_a_limit(rt: HostRuntime) -> Result<(), Fail> {
         ("d", 1_000_000),
         ("e", 1_000_000),
     ];
-    let graph = graph_of(rt.alloc(), &[1], &channels)?;
-    let shared = shared_rows(rt.alloc(), &tokens)?;
-    match matrix(&rt, rt.alloc(), &graph, shared.as_slice()) {
-        Err(MatrixError::Limit) => Ok(()),
-        _ => panic!(&rt; "five million stamps are too many"),
-    }
+    let made = made(&rt, rt.alloc(), &[1], &channels, &tokens)?;
+    assert!(rt; matches!(&made, Err(MatrixError::Limit)));
+    Ok(())
 }

@@ -30,17 +30,19 @@ pub(crate) fn lattice(
     })
 }
 
-/// A telling from capacities and the channels that it shows.
+/// A telling from capacities and the channels that it shows, on all of which it bounds.
 pub(crate) fn telling(
     alloc: Global,
     capacities: &[u64],
     enlarge: &[u32],
 ) -> Result<Telling, NoMemory> {
     let capacities = Rows::from_vec(capacities.to_vec(alloc)?);
+    let bounding = Rows::from_vec(enlarge.to_vec(alloc)?);
     let enlarge = Rows::from_vec(enlarge.to_vec(alloc)?);
     Ok(Telling {
         capacities,
         enlarge,
+        bounding,
         rate: Fraction::new(0, 1),
         blocked: None,
     })

@@ -4,12 +4,12 @@ use Rattle.std.specs.Prelude.{slice_index, slice_index_or}
 use Rattle.std.proofs.lemmas.Bool.{cases_lt}
 use Rattle.std.proofs.lemmas.List.{length-set, get_or-set_same, get_or-set_other, get_or-take}
 use Rattle.sd_base.specs.Net.{Net, channel_at}
-use Rattle.sd_base.proofs.Lists.{replicate-same}
-use Rattle.sd_base.proofs.Truths.{some-none}
+use Rattle.sd_base.proofs.ElementsKeepPlaces.{replicate-same}
+use Rattle.sd_base.proofs.ByteTestsDecide.{some-none}
 use Rattle.firing.specs.declared.sums.Port.{Port}
 use Rattle.firing.specs.declared.sums.Port.TheVariants.{Made, Taken}
 use Rattle.firing.specs.Wiring.{actor_at, IsListed}
-use Rattle.firing.proofs.Listings.{place_of}
+use Rattle.firing.proofs.PlacesAreListed.{place_of}
 use Rattle.firing.proofs.TokenMoves.{apart}
 use Rattle.token_matrix.specs.inside.LaterRows.{Reaches, AreWide, IsRaised}
 use Rattle.token_matrix.specs.inside.Lines.{line_at, taken_on, made_on, AreReady, AreTaken, IsLatest, ArePut}

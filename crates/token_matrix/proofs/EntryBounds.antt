@@ -12,11 +12,11 @@ use Rattle.sd_base.specs.Schedules.{time_of}
 use Rattle.sd_base.specs.Lawful.{Lawful}
 use Rattle.sd_base.specs.FileNet.{net_of}
 use Rattle.sd_base.specs.Untimed.{one_more, CanFire, IsRoundOrder}
-use Rattle.sd_base.proofs.Sums.{total-grows}
-use Rattle.sd_base.proofs.Parts.{timed, wired, balanced}
-use Rattle.sd_base.proofs.Rounds.{whole-round}
-use Rattle.sd_base.proofs.Blocking.{bump-same, bump-more, bump-cases}
-use Rattle.sd_base.proofs.Ends.{sum_to, sum_to-le, sum_to-lt}
+use Rattle.sd_base.proofs.SumsRepeatByTurns.{total-grows}
+use Rattle.sd_base.proofs.LawfulIsRegular.{timed, wired, balanced}
+use Rattle.sd_base.proofs.RoundsKeepTokens.{whole-round}
+use Rattle.sd_base.proofs.ClosedCountsBoundRuns.{bump-same, bump-more, bump-cases}
+use Rattle.sd_base.proofs.FiringOrdersEnd.{sum_to, sum_to-le, sum_to-lt}
 use Rattle.sd_base.proofs.FileNets.{net_of-lawful}
 use Rattle.sd_base.specs.declared.tables.SharedRow.{SharedRow}
 use Rattle.sd_base.specs.declared.limits.TheConstants.{TIME, ROUND}
@@ -24,11 +24,11 @@ use Rattle.sd_base.specs.Scenarios.{shared_count, Shares}
 use Rattle.token_matrix.specs.Stamps.{first_of, left_token}
 use Rattle.token_matrix.specs.Matrices.{entry_at, IsMatrix}
 use Rattle.token_matrix.specs.inside.RoundRows.{Table, row_at, HasEntry, UpTo, Small}
-use Rattle.token_matrix.proofs.Symbolic.{AreRows}
-use Rattle.token_matrix.proofs.Carrying.{IsLeft}
-use Rattle.token_matrix.proofs.Putters.{put_earlier}
+use Rattle.token_matrix.proofs.RowsGiveStarts.{AreRows}
+use Rattle.token_matrix.proofs.RowsCarryStamps.{IsLeft}
+use Rattle.token_matrix.proofs.TokensHaveProducers.{put_earlier}
 use Rattle.token_matrix.proofs.RowsSoFar.{IsNextRow, HasRowMore, row_on, row_new}
-use Rattle.token_matrix.proofs.OfGraph.{covers, matrix_carries}
+use Rattle.token_matrix.proofs.GraphMatricesCarry.{covers, matrix_carries}
 
 sum-take : (xs : List ℕ) (n : ℕ) → n ≤ length xs → sum_to (slice_index xs) n ≡ sum (take n xs)
 unfolding sum_to

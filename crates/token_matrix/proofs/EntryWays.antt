@@ -13,8 +13,8 @@ use Rattle.sd_base.specs.Schedules.{time_of}
 use Rattle.token_matrix.specs.Stamps.{AreStampsOf, first_of}
 use Rattle.token_matrix.specs.Matrices.{IsMatrix, applied, apply_row, entry_at}
 use Rattle.token_matrix.specs.Ways.{IsWay}
-use Rattle.token_matrix.proofs.Rows.{applied-at}
-use Rattle.token_matrix.proofs.Spikes.{spike, length-spike, at_none, at_some, spike-here, spike-there}
+use Rattle.token_matrix.proofs.EntriesGiveStamps.{applied-at}
+use Rattle.token_matrix.proofs.SpikesReadEntries.{spike, length-spike, at_none, at_some, spike-here, spike-there}
 use Rattle.token_matrix.proofs.WayStamps.{way_stamp, LongestWay, longest_way}
 
 module _ (shared : List SharedRow) (g : GraphFile) (gamma : List ℕ) (rows : List (List (Option ℕ))) (is : IsMatrix shared g gamma rows)

@@ -10,7 +10,7 @@ use Rattle.sd_base.specs.Scenarios.{shared_count, Shares}
 use Rattle.token_matrix.specs.Stamps.{no_row, first_token, first_of}
 use Rattle.token_matrix.specs.inside.LaterRows.{IsUnit}
 use Rattle.token_matrix.specs.inside.Tokens.{IsFirstLine}
-use Rattle.token_matrix.proofs.Numbering.{number_inside}
+use Rattle.token_matrix.proofs.NumbersCoverTokens.{number_inside}
 
 -- one token more
 pub line_more : (size first n : ℕ) (line more : List (List (Option ℕ))) (row : List (Option ℕ)) → IsFirstLine size first n line → IsUnit size (first + n) row → more ≡ line ++ replicate 1 row → IsFirstLine size first (n + 1) more

@@ -7,11 +7,11 @@ use Rattle.sd_base.specs.Lawful.{Lawful}
 use Rattle.sd_base.specs.Scenarios.{shared_count}
 use Rattle.sd_base.specs.Schedules.{time_of}
 use Rattle.sd_base.proofs.FileNets.{net_of-lawful}
-use Rattle.sd_base.proofs.Parts.{timed}
+use Rattle.sd_base.proofs.LawfulIsRegular.{timed}
 use Rattle.token_matrix.specs.EntryWays.{CarriesStamps, HasItsWay, HasNoLongerWay}
 use Rattle.token_matrix.specs.Matrices.{IsMatrix}
 use Rattle.token_matrix.proofs.EntryWays.{entry_way, way_entry}
-use Rattle.token_matrix.proofs.OfGraph.{covers, inside}
+use Rattle.token_matrix.proofs.GraphMatricesCarry.{covers, inside}
 
 module _ (shared : List SharedRow) (g : GraphFile) (gamma : List ℕ) (carries : CarriesStamps shared g gamma) (rows : List (List (Option ℕ))) (is : IsMatrix shared g gamma rows) where
   pub laws : Lawful (net_of g gamma false)

@@ -5,14 +5,14 @@ use Rattle.std.proofs.lemmas.Bool.{cases_lt}
 use Rattle.sd_base.specs.Net.{Net, channel_at, total}
 use Rattle.sd_base.specs.Schedules.{time_of}
 use Rattle.sd_base.specs.Lawful.{Lawful}
-use Rattle.sd_base.proofs.Parts.{balanced}
+use Rattle.sd_base.proofs.LawfulIsRegular.{balanced}
 use Rattle.token_matrix.specs.Matrices.{entry_at}
 use Rattle.token_matrix.specs.inside.RoundRows.{Table, row_at, HasEntry, IsRowOf}
-use Rattle.token_matrix.proofs.Putters.{one_putter, putter}
+use Rattle.token_matrix.proofs.TokensHaveProducers.{one_producer, producer}
 use Rattle.token_matrix.proofs.OneRound.{Covers}
-use Rattle.token_matrix.proofs.Symbolic.{AreRows}
+use Rattle.token_matrix.proofs.RowsGiveStarts.{AreRows}
 use Rattle.token_matrix.specs.Stamps.{left_token}
-use Rattle.token_matrix.proofs.Carrying.{IsLeft}
+use Rattle.token_matrix.proofs.RowsCarryStamps.{IsLeft}
 
 module _ (net : Net) (first : ℕ → ℕ) (rows : Table) where
   -- a token has one entry in a column
@@ -21,7 +21,7 @@ module _ (net : Net) (first : ℕ → ℕ) (rows : Table) where
   one_entry i m p e d (inl (h, at, is)) (inr (k, x, put, counted, entry, also)) = absurd (let low : (channel_at net i).tokens + total (channel_at net i).made k ≤ m = put.0 in let no : ⊥ = omega arith in no)
   one_entry i m p e d (inr (k, x, put, counted, entry, is)) (inl (g, at', also)) = absurd (let low : (channel_at net i).tokens + total (channel_at net i).made k ≤ m = put.0 in let no : ⊥ = omega arith in no)
   one_entry i m p e d (inr (k, x, put, counted, entry, is)) (inr (l, y, put', counted', entry', also)) =
-      let same : k ≡ l = one_putter net i m k l put put' in
+      let same : k ≡ l = one_producer net i m k l put put' in
       let here : slice_index_or (row_at rows (channel_at net i).source l) p None ≡ Some x = subst (λ (b : ℕ). slice_index_or (row_at rows (channel_at net i).source b) p None ≡ Some x) same entry in
       let values : Some x ≡ Some y = sym here ∙ entry' in
       let value : x ≡ y = cc in
@@ -47,7 +47,7 @@ module _ (net : Net) (first : ℕ → ℕ) (rows : Table) where
   token_entry i m n many some below = ⊎_elim
       (λ (h : m < (channel_at net i).tokens). (first i + m, 0, inl (h, refl, refl)))
       (λ (h : (channel_at net i).tokens ≤ m).
-      let k = putter net i m n h below in
+      let k = producer net i m n h below in
       let s = some k.0 k.1 in
       (s.0, s.1 + time_of net (channel_at net i).source k.0, inr (k.0, s.1, k.2, subst (λ (x : ℕ). k.0 < x) (sym many) k.1, s.2, refl)))
       (cases_lt m (channel_at net i).tokens)

@@ -11,7 +11,7 @@ use Rattle.sd_base.specs.declared.tables.SharedRow.{SharedRow}
 use Rattle.sd_base.specs.Scenarios.{shared_count, Shares}
 use Rattle.token_matrix.specs.Stamps.{no_row, first_token, first_of}
 use Rattle.token_matrix.specs.inside.Tokens.{IsNumberOf, AreHeld, AreLeftRows}
-use Rattle.token_matrix.proofs.Numbering.{RowsDiffer, later_differ, one_head}
+use Rattle.token_matrix.proofs.NumbersCoverTokens.{RowsDiffer, later_differ, one_head}
 
 -- the rows of the channels of the first n shared rows
 pub record LeftSoFar (shared : List SharedRow) (g : GraphFile) (lines : List (List (List (Option ℕ)))) (rows : List (List (Option ℕ))) (n : ℕ) : Type 0 where

@@ -8,8 +8,8 @@ use Rattle.sd_base.specs.declared.limits.TheConstants.{TIME, ROUND}
 use Rattle.sd_base.specs.Scenarios.{shared_count}
 use Rattle.token_matrix.specs.Stamps.{AreStampsOf}
 use Rattle.token_matrix.specs.Matrices.{apply_row, applied, IsMatrix}
-use Rattle.token_matrix.proofs.Rows.{applied-at}
-use Rattle.token_matrix.proofs.Spikes.{AreShort, at_none, at_some, length-spike, spike}
+use Rattle.token_matrix.proofs.EntriesGiveStamps.{applied-at}
+use Rattle.token_matrix.proofs.SpikesReadEntries.{AreShort, at_none, at_some, length-spike, spike}
 
 one_row : (b n : ℕ) (r s : List (Option ℕ)) → length r ≡ n → length s ≡ n → AreShort b r → AreShort b s
     → ((x : List ℕ) → length x ≡ n → apply_row r x ≡ apply_row s x) → r ≡ s

@@ -7,9 +7,9 @@ use Rattle.sd_base.specs.Net.{Net, channel_at, total}
 use Rattle.sd_base.specs.Schedules.{Schedule, count_of, start_of, end_of, time_of}
 use Rattle.sd_base.specs.Lawful.{Lawful}
 use Rattle.sd_base.specs.Untimed.{none_fired, one_more, Fires, counts_after, IsRoundOrder}
-use Rattle.sd_base.proofs.Sums.{total-le}
-use Rattle.sd_base.proofs.Blocking.{bump-same, bump-other}
-use Rattle.token_matrix.proofs.Putters.{one_putter}
+use Rattle.sd_base.proofs.SumsRepeatByTurns.{total-le}
+use Rattle.sd_base.proofs.ClosedCountsBoundRuns.{bump-same, bump-other}
+use Rattle.token_matrix.proofs.TokensHaveProducers.{one_producer}
 use Rattle.token_matrix.specs.Stamps.{HasStamp, AreRoundStarts, AreStamps}
 
 -- each shared token is one of a channel
@@ -77,7 +77,7 @@ module _ (net : Net) (laws : Lawful net) (first : ℕ → ℕ) (x : List ℕ) wh
   one_stamp s t order round of_s of_t i m y z place (inr (k, put, there, also)) (inl (h, is)) = absurd (let low : (channel_at net i).tokens + total (channel_at net i).made k ≤ m = put.0 in let no : ⊥ = omega arith in no)
   one_stamp s t order round of_s of_t i m y z place (inr (k, put, there, is)) (inr (l, put', there', also)) =
       let source : (channel_at net i).source < length net.times = laws.sources i place in
-      let e : k ≡ l = one_putter net i m k l put put' in
+      let e : k ≡ l = one_producer net i m k l put put' in
       let below : k < slice_index net.round (channel_at net i).source = subst (λ (n : ℕ). k < n) (of_s.whole (channel_at net i).source source) there in
       is ∙ ap (λ (n : ℕ). n + time_of net (channel_at net i).source k) (one_round order round s t of_s of_t (channel_at net i).source k source below)
       ∙ ap (λ (n : ℕ). end_of net t (channel_at net i).source n) e ∙ sym also

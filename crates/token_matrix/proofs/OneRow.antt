@@ -6,7 +6,7 @@ use Rattle.sd_base.specs.Schedules.{time_of}
 use Rattle.token_matrix.specs.inside.LaterRows.{shifted}
 use Rattle.token_matrix.specs.Stamps.{IsTakenBy, IsPutBy}
 use Rattle.token_matrix.specs.inside.RoundRows.{Table, row_at, HasEntry, IsRowOf}
-use Rattle.token_matrix.proofs.Putters.{one_putter}
+use Rattle.token_matrix.proofs.TokensHaveProducers.{one_producer}
 use Rattle.token_matrix.proofs.RowsSoFar.{IsNextRow}
 
 -- ---- later rows
@@ -56,7 +56,7 @@ module _ (net : Net) (first : ℕ → ℕ) (rows : Table) where
           → (d : ℕ) × (slice_index_or (shifted (time_of net (channel_at net i).source k) (row_at rows (channel_at net i).source k)) p None ≡ Some d) × (e ≤ d)
       found n p e mine (inl (initial, at, none)) = absurd (let low : (channel_at net i).tokens + total (channel_at net i).made k ≤ n = mine.0 in let no : ⊥ = omega arith in no)
       found n p e mine (inr (l, d, other, counted', entry, is)) =
-          let same : l ≡ k = one_putter net i n l k other mine in
+          let same : l ≡ k = one_producer net i n l k other mine in
           let here : slice_index_or (row_at rows (channel_at net i).source k) p None ≡ Some d = subst (λ (b : ℕ). slice_index_or (row_at rows (channel_at net i).source b) p None ≡ Some d) same entry in
           let time : time_of net (channel_at net i).source l ≡ time_of net (channel_at net i).source k = ap (λ (b : ℕ). time_of net (channel_at net i).source b) same in
           (d + time_of net (channel_at net i).source k, shifted-at (time_of net (channel_at net i).source k) (row_at rows (channel_at net i).source k) p d here, (let le : e ≤ d + time_of net (channel_at net i).source k = omega (arith, is) in le))

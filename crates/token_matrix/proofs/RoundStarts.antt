@@ -7,11 +7,11 @@ use Rattle.sd_base.specs.Lawful.{Lawful}
 use Rattle.sd_base.specs.Schedules.{time_of}
 use Rattle.sd_base.specs.Untimed.{none_fired, one_more, CanFire, Fires, counts_after}
 use Rattle.sd_base.specs.Schedules.{HasInputs}
-use Rattle.sd_base.proofs.Sums.{total-le}
-use Rattle.sd_base.proofs.Blocking.{bump-more, bump-cases}
+use Rattle.sd_base.proofs.SumsRepeatByTurns.{total-le}
+use Rattle.sd_base.proofs.ClosedCountsBoundRuns.{bump-more, bump-cases}
 use Rattle.token_matrix.specs.Stamps.{IsTakenBy, IsPutBy}
-use Rattle.token_matrix.proofs.Putters.{one_putter, putter}
-use Rattle.token_matrix.proofs.Bests.{Best, best_of, AreUnique, AreDecided}
+use Rattle.token_matrix.proofs.TokensHaveProducers.{one_producer, producer}
+use Rattle.token_matrix.proofs.GreatestExists.{Best, best_of, AreUnique, AreDecided}
 
 -- starts by actor and firing
 abbrev pub Starts : Type 0
@@ -29,14 +29,14 @@ module _ (net : Net) (laws : Lawful net) (first : ℕ → ℕ) (x : List ℕ) wh
   one-stamp s v i m y z (inl (there, is)) (inr (k, puts, before, is')) = absurd (let low : (channel_at net i).tokens + total (channel_at net i).made k ≤ m = puts.0 in let no : ⊥ = omega (arith, there) in no)
   one-stamp s v i m y z (inr (k, puts, before, is)) (inl (there, is')) = absurd (let low : (channel_at net i).tokens + total (channel_at net i).made k ≤ m = puts.0 in let no : ⊥ = omega (arith, there) in no)
   one-stamp s v i m y z (inr (k, puts, before, is)) (inr (l, puts', before', is')) =
-      let same : k ≡ l = one_putter net i m k l puts puts' in
+      let same : k ≡ l = one_producer net i m k l puts puts' in
       is ∙ (ap (λ (n : ℕ). s (channel_at net i).source n + time_of net (channel_at net i).source n) same ∙ sym is')
 
   -- a token that is there has a stamp
   pub some-stamp : (s : Starts) (v : ℕ → ℕ) (i m : ℕ) → m < (channel_at net i).tokens + total (channel_at net i).made (v (channel_at net i).source) → (z : ℕ) × Stamped s v i m z
   some-stamp s v i m below = ⊎_elim
       (λ (there : m < (channel_at net i).tokens). (slice_index x (first i + m), inl (there, refl)))
-      (λ (put : (channel_at net i).tokens ≤ m). (let k = putter net i m (v (channel_at net i).source) put below in
+      (λ (put : (channel_at net i).tokens ≤ m). (let k = producer net i m (v (channel_at net i).source) put below in
       (s (channel_at net i).source k.0 + time_of net (channel_at net i).source k.0, inr (k.0, k.2, k.1, refl))))
       (cases_lt m (channel_at net i).tokens)
 

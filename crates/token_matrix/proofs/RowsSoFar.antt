@@ -6,12 +6,12 @@ use Rattle.std.proofs.lemmas.List.{get_or_append_left, get_or-append_right}
 use Rattle.sd_base.specs.Net.{Net, channel_at, total}
 use Rattle.sd_base.specs.Lawful.{Lawful}
 use Rattle.sd_base.specs.Untimed.{none_fired, one_more, CanFire}
-use Rattle.sd_base.proofs.Sums.{total-le}
-use Rattle.sd_base.proofs.Blocking.{bump-same, bump-other, bump-more, bump-cases}
+use Rattle.sd_base.proofs.SumsRepeatByTurns.{total-le}
+use Rattle.sd_base.proofs.ClosedCountsBoundRuns.{bump-same, bump-other, bump-more, bump-cases}
 use Rattle.token_matrix.specs.Stamps.{IsTakenBy}
 use Rattle.token_matrix.specs.inside.RoundRows.{Table, row_at, HasEntry, UpTo}
-use Rattle.token_matrix.proofs.Putters.{put_earlier}
-use Rattle.token_matrix.proofs.Symbolic.{AreRows}
+use Rattle.token_matrix.proofs.TokensHaveProducers.{put_earlier}
+use Rattle.token_matrix.proofs.RowsGiveStarts.{AreRows}
 
 -- the row of the next firing of a is the greatest of those of the tokens that it takes
 pub record IsNextRow (net : Net) (first : ℕ → ℕ) (count : ℕ) (rows : Table) (a j : ℕ) (new : List (Option ℕ)) : Type 0 where

@@ -13,7 +13,7 @@ use Rattle.token_matrix.specs.EntryWays.{CarriesStamps}
 use Rattle.token_matrix.specs.Matrices.{IsMatrix, applied}
 use Rattle.token_matrix.specs.Stamps.{AreRoundStarts, AreStampsOf, first_of}
 use Rattle.token_matrix.proofs.GraphWays.{laws, takes-time}
-use Rattle.token_matrix.proofs.OfGraph.{inside}
+use Rattle.token_matrix.proofs.GraphMatricesCarry.{inside}
 
 module _ (shared : List SharedRow) (g : GraphFile) (gamma : List ℕ) (carries : CarriesStamps shared g gamma) (rows : List (List (Option ℕ))) (is : IsMatrix shared g gamma rows) where
   -- from a firing that starts at t at the latest

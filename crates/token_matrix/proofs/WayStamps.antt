@@ -7,7 +7,7 @@ use Rattle.sd_base.specs.Schedules.{start_of, end_of, time_of}
 use Rattle.token_matrix.specs.Stamps.{HasStamp, AreStamps, left_token}
 use Rattle.token_matrix.specs.Ways.{IsWay}
 use Rattle.token_matrix.specs.Ways.IsWay.{stays, put}
-use Rattle.token_matrix.proofs.Putters.{one_putter}
+use Rattle.token_matrix.proofs.TokensHaveProducers.{one_producer}
 use Rattle.token_matrix.proofs.ChainStamps.{chain_stamp, longest}
 
 module _ (net : Net) (laws : Lawful net) (first : ℕ → ℕ) (count : ℕ) (x y : List ℕ) (stamps : AreStamps net first count x y) where
@@ -29,7 +29,7 @@ module _ (net : Net) (laws : Lawful net) (first : ℕ → ℕ) (count : ℕ) (x 
       step : HasStamp net first x stamps.starts i (left_token net i k) (slice_index y (first i + k)) → slice_index x p + (t + time_of net (channel_at net i).source n) ≤ slice_index y q
       step (inl (h, same)) = absurd (let low : (channel_at net i).tokens + total (channel_at net i).made n ≤ left_token net i k = puts.0 in let no : ⊥ = omega (arith, h) in no)
       step (inr (l, puts', before, same)) =
-          let one : l ≡ n = one_putter net i (left_token net i k) l n puts' puts in
+          let one : l ≡ n = one_producer net i (left_token net i k) l n puts' puts in
           let low : slice_index x p + t ≤ start_of stamps.starts (channel_at net i).source n = chain_stamp net laws first x stamps.starts stamps.round p (channel_at net i).source n t cs chain in
           let end : slice_index y q ≡ end_of net stamps.starts (channel_at net i).source n = ap (λ (m : ℕ). slice_index y m) is ∙ same ∙ ap (λ (m : ℕ). end_of net stamps.starts (channel_at net i).source m) one in
           omega arith

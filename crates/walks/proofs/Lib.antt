@@ -1,7 +1,7 @@
-pub mod Steps
+pub mod StepsFitLattice
 pub mod MoreTold
 pub mod PlaceFound
-pub mod Between
-pub mod Lacking
+pub mod WalksStayBetween
+pub mod StepsLessenLack
 pub mod MostLacking
 pub mod WalkEnds

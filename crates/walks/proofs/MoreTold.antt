@@ -2,8 +2,8 @@
 use Rattle.std.proofs.Common.{ℕ, ◌++◌, List, refl, arith}
 use Rattle.std.specs.Prelude.{Contains}
 use Rattle.std.proofs.lemmas.List.Elements.{Contains-append_left}
-use Rattle.sd_base.proofs.Containing.{get-contains}
-use Rattle.sd_base.proofs.Lists.{get-left}
+use Rattle.sd_base.proofs.ContainedHavePlaces.{get-contains}
+use Rattle.sd_base.proofs.ElementsKeepPlaces.{get-left}
 use Rattle.covers.specs.declared.lattice.Axis.{Axis}
 use Rattle.walks.specs.declared.telling.Telling.{Telling}
 use Rattle.walks.specs.Tellings.{HoldsBack, IsHeld, IsHeldAt}

@@ -2,8 +2,8 @@
 use Rattle.std.proofs.Common.{◌≡◌, ℕ, ◌<◌, Option, None, Some, List, length, refl, sym, subst}
 use Rattle.std.specs.Prelude.{Contains, IfSome, MatchOption, slice_get, slice_index_or}
 use Rattle.std.proofs.lemmas.Option.{get_or_from_slice_get, slice_get_within}
-use Rattle.sd_base.proofs.Containing.{contains-get}
-use Rattle.sd_base.proofs.Lists.{get-there}
+use Rattle.sd_base.proofs.ContainedHavePlaces.{contains-get}
+use Rattle.sd_base.proofs.ElementsKeepPlaces.{get-there}
 use Rattle.walks.specs.declared.telling.Telling.{Telling}
 
 pub place-found : (Is : Telling → Type 0) (tellings : List Telling) (found : Option ℕ) → IfSome found (λ (i : ℕ). i < length tellings) → ((i : ℕ) (d : Telling) → found ≡ Some i → Is (slice_index_or tellings i d)) → (found ≡ None → (i : ℕ) (d : Telling) → i < length tellings → Is (slice_index_or tellings i d) → ⊥) →

@@ -2,7 +2,7 @@
 use Rattle.std.proofs.Common.{◌≡◌, ℕ, ◌+◌, ◌≤◌, ◌<◌, Option, Some, None, List, length, sym, ◌∙◌, subst, arith}
 use Rattle.std.specs.Prelude.{All, Contains, IfSome, MatchOption, slice_get, slice_index, slice_index_or}
 use Rattle.std.proofs.lemmas.Option.{slice_get_within}
-use Rattle.sd_base.proofs.Containing.{get-contains}
+use Rattle.sd_base.proofs.ContainedHavePlaces.{get-contains}
 use Rattle.covers.specs.declared.lattice.Axis.{Axis}
 use Rattle.covers.specs.Lattices.{IsOnLattice, corner_of}
 use Rattle.walks.specs.declared.telling.Telling.{Telling}
@@ -10,9 +10,9 @@ use Rattle.walks.specs.Tellings.{HoldsBack, IsHeld, IsUnder, IsUnderAt}
 use Rattle.walks.specs.Walks.{AreOnLattice, HoldsWalk, IsBy, IsWalked, StopsAt, begin, begin_at, step, step_at, with_step}
 use Rattle.walks.specs.inside.Lacks.{LacksMost, LacksNone}
 use Rattle.walks.specs.inside.Starts.{HasUnder, IsStart}
-use Rattle.walks.proofs.Between.{set-more, under-along, walked-below, walked-on}
-use Rattle.walks.proofs.Lacking.{lacking, lacking-falls}
-use Rattle.walks.proofs.Steps.{lack-fits, none-lacks, step-some}
+use Rattle.walks.proofs.WalksStayBetween.{set-more, under-along, walked-below, walked-on}
+use Rattle.walks.proofs.StepsLessenLack.{lacking, lacking-falls}
+use Rattle.walks.proofs.StepsFitLattice.{lack-fits, none-lacks, step-some}
 
 -- a walk came to the capacities
 pub record IsUnderWay (axes : List Axis) (tellings : List Telling) (goal ks : List ℕ) (by : Option ℕ) : Type 0 where

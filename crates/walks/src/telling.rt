@@ -11,6 +11,8 @@ pub struct Telling {
     pub capacities: Rows<u64>,
     /// The channels on which more room could raise the rate, ascending.
     pub enlarge: Rows<u32>,
+    /// Of these the channels on which it bounds: capacities with no more on each of them have no greater rate.
+    pub bounding: Rows<u32>,
     /// In rounds per time unit.
     pub rate: Fraction,
     /// By actor the firings after which none can go on, where no round can be completed.

@@ -2,7 +2,7 @@ use Rattle.std.proofs.Common.{◌≡◌, ◌<◌, List, length, sym, subst, ◌�
 use Rattle.balance.specs.declared.walk.Link.{Link}
 use Rattle.balance.specs.Walks.{links_of}
 use Rattle.balance.specs.inside.Search.{HasEnds, IsSearched, mark_at}
-use Rattle.balance.proofs.TableLemmas.{has_ends}
+use Rattle.balance.proofs.RulesBoundLinks.{has_ends}
 use Rattle.balance.proofs.StepsDecide.{apart_from}
 use Rattle.balance.proofs.repetition.Goals as goal
 

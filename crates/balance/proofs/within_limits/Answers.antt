@@ -11,7 +11,7 @@ use Rattle.balance.specs.Walks.{links_of}
 use Rattle.balance.specs.inside.Search.{HasSums, HasEnds, IsSearched, mark_at}
 use Rattle.balance.specs.inside.Ratios.{IsLimitRefusal, IsKeptRefusal, IsRoundRefusal, AreRatios, Keeps}
 use Rattle.balance.specs.Repetition.{IsConnected, IsBalanced, IsRound, IsRefusal}
-use Rattle.balance.proofs.TableLemmas.{has_sums, has_ends}
+use Rattle.balance.proofs.RulesBoundLinks.{has_sums, has_ends}
 use Rattle.balance.proofs.LeastRounds.{ways_within, consistent_from}
 use Rattle.balance.proofs.StepsDecide.{connected_from, by_limit, by_kept, by_round}
 use Rattle.balance.proofs.within_limits.Goals as goal

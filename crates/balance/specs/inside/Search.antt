@@ -15,7 +15,7 @@ pub record IsJoined (rows rows' : List (List ℕ)) (k : ℕ) (l : Link) : Type 0
   pub joins : (l.source ≡ l.target → ⊥) → rows' ≡ appended (appended rows l.source k) l.target k
 
 -- each actor's list has the channels before n that join it with another actor, in their order
-pub record AreJoints (ls : List Link) (n actors : ℕ) (rows : List (List ℕ)) : Type 0 where
+pub record IsIncidence (ls : List Link) (n actors : ℕ) (rows : List (List ℕ)) : Type 0 where
   pub size : length rows ≡ actors
   pub below : (a p k : ℕ) → slice_get (list_at rows a) p ≡ Some k → k < n
   pub rising : (a p q k k' : ℕ) → p < q → slice_get (list_at rows a) p ≡ Some k → slice_get (list_at rows a) q ≡ Some k' → k < k'

@@ -91,7 +91,7 @@ pub(crate) fn numbered_member(
     })
 }
 
-#[tactic(auto, using(crate::proofs::Uses::used_next), unfolding(crate::specs::Sections::numbered_from, crate::specs::Sections::blocked_from, crate::specs::MemberLines::blocked_line, crate::specs::MemberLines::shown_lines))]
+#[tactic(auto, using(crate::proofs::MembersNameInOrder::used_next), unfolding(crate::specs::Sections::numbered_from, crate::specs::Sections::blocked_from, crate::specs::MemberLines::blocked_line, crate::specs::MemberLines::shown_lines))]
 fn numbered_shown(
     alloc: Global,
     lines: &mut Lines,

@@ -42,7 +42,7 @@ sum_before f from [] = 0
 sum_before f from (step ∷ steps) = f from + sum_before f step.to steps
 
 -- a chain leads from one firing to another one, all the time between their starts; its parts are those of all its firings but the last
-pub record IsLap (net : Net) (here kept : Start) (parts : List Part) : Type 0 where
+pub record IsSegment (net : Net) (here kept : Start) (parts : List Part) : Type 0 where
   pub steps : List CycleStep
   pub chain : IsChain net (firing_of here) steps
   pub ends : last_of (firing_of here) steps ≡ firing_of kept
@@ -62,11 +62,11 @@ pub record IsWayTo (net : Net) (last here : Start) (parts : List Part) : Type 0 
   pub counted : AreParts net (firing_of here) steps parts
 
 -- how often the way from one firing of an actor to a later one, whole passes further on, fits between the entry and the earlier one
-pub record FitsTimes (times : Timetable) (earlier later : Start) (laps : ℕ) : Type 0 where
+pub record FitsTimes (times : Timetable) (earlier later : Start) (segments : ℕ) : Type 0 where
   pub actor : later.actor ≡ earlier.actor
   pub passes : ℕ
   pub apart : later.number ≡ earlier.number + passes * pass_of times earlier.actor
-  pub fits : before_of times earlier.actor + laps * (passes * pass_of times earlier.actor) ≤ earlier.number
+  pub fits : before_of times earlier.actor + segments * (passes * pass_of times earlier.actor) ≤ earlier.number
 
 -- how far a walk has come, back from the last firing of its actor in some rounds, of which there are few
 pub record IsWalkBack (net : Net) (times : Timetable) (walk : Walk) : Type 0 where
@@ -78,4 +78,4 @@ pub record IsWalkBack (net : Net) (times : Timetable) (walk : Walk) : Type 0 whe
   pub kept : IsStart net times walk.kept
   pub since : walk.kept.moment ≤ walk.last.moment
   pub way : IsWayTo net walk.last walk.here walk.parts.items
-  pub lap : IsLap net walk.here walk.kept walk.lap.items
+  pub segment : IsSegment net walk.here walk.kept walk.segment.items

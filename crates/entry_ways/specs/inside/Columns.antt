@@ -59,7 +59,7 @@ pub record HasStart (a : ℕ) (start : Option ℕ) (old new : List (List (Option
   pub others : (b : ℕ) → b ≢ a → slice_index_or new b [] ≡ slice_index_or old b []
 
 -- the firings of a channel's source from first to end put the tokens that firing j of its target takes, but initial ones
-pub record ArePutters (net : Net) (number : ℕ → ℕ) (p i j : ℕ) (has : Bool) (first end : ℕ) : Type 0 where
+pub record AreProducers (net : Net) (number : ℕ → ℕ) (p i j : ℕ) (has : Bool) (first end : ℕ) : Type 0 where
   pub token : IsTrue has ↔ ((m : ℕ) × IsTakenBy (channel_at net i) m j × (m < (channel_at net i).tokens) × (p ≡ number i + m))
   pub each : (k : ℕ) → first ≤ k → k < end → (m : ℕ) × IsTakenBy (channel_at net i) m j × IsPutBy (channel_at net i) m k
   pub all : (m k : ℕ) → IsTakenBy (channel_at net i) m j → IsPutBy (channel_at net i) m k → (first ≤ k) × (k < end)

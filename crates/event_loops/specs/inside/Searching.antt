@@ -5,7 +5,7 @@ use Rattle.sd_base.specs.Net.{Net}
 use Rattle.sd_base.specs.SelfTimed.{IsEvent, events_by, shape_at, starts_by}
 use Rattle.sd_base.specs.Rates.{IsLoop}
 use Rattle.selftimed.specs.EngineShapes.{form}
-use Rattle.selftimed.specs.Prints.{print_of, running_print_of}
+use Rattle.selftimed.specs.Fingerprints.{fingerprint_of, running_fingerprint_of}
 use Rattle.loops.specs.declared.alike.Pair.{Pair}
 use Rattle.event_loops.specs.declared.search.Checkpoint.{Checkpoint}
 use Rattle.event_loops.specs.declared.search.Watch.{Watch}
@@ -22,13 +22,13 @@ pub record IsPair (net : Net) (pair : Pair) : Type 0 where
   pub same : shape_at net pair.later ≡ shape_at net pair.earlier
   pub first : (u : ℕ) → IsEvent net u → pair.earlier < u → u < pair.later → shape_at net u ≢ shape_at net pair.earlier
 
--- a checkpoint holds the shape at an event, the prints of its tokens and of its running firings, its moment, and the
+-- a checkpoint holds the shape at an event, the fingerprints of its tokens and of its running firings, its moment, and the
 -- starts up to and with it
 pub record IsCheckpoint (net : Net) (c : Checkpoint) : Type 0 where
   pub event : IsEvent net c.moment
   pub shape : form c.shape ≡ shape_at net c.moment
-  pub print : c.print ≡ print_of (shape_at net c.moment).tokens
-  pub running_print : c.running_print ≡ running_print_of (shape_at net c.moment).remaining
+  pub fingerprint : c.fingerprint ≡ fingerprint_of (shape_at net c.moment).tokens
+  pub running_fingerprint : c.running_fingerprint ≡ running_fingerprint_of (shape_at net c.moment).remaining
   pub starts : c.starts ≡ starts_by net c.moment
 
 -- a checkpoint before an end, whose shape no later event before it has

@@ -84,7 +84,7 @@ pub record IsSearch (net : Net) (limits : Limits) (floor : ℕ) (taken : List (L
   pub bounds : s.levels.bounds ≡ record { total = limits.total; distributions = limits.distributions }
   pub frontier : IsFrontier net.channels corner floor (visits_of entries) taken s.levels
   pub candidates : (m : Member) → Contains s.members.items m → IsCandidate net limits.total m.capacities.capacities
-  pub hinted : (f : Found (Option ℕ)) → Contains s.levels.waiting.keys f → IsHinted net limits.states s.members.items f.hint f.capacities.capacities
+  pub hinted : (f : Found (Option ℕ)) → Contains s.levels.waiting f → IsHinted net limits.states s.members.items f.hint f.capacities.capacities
 
 -- where an exploration stands between two levels
 abbrev pub IsStanding : Net → Limits → Search → Type 0

@@ -5,7 +5,7 @@ use Rattle.graph_reader.specs.Sections.{table_of}
 use Rattle.graph_reader.proofs.BrokenRules.{first_fault, text_fault, text_exact}
 use Rattle.graph_reader.proofs.BrokenRules.{table_of as rules}
 use Rattle.graph_reader.proofs.ReadNames.{given_names}
-use Rattle.graph_reader.proofs.Rules.{keeps_rules, is_timed}
+use Rattle.graph_reader.proofs.TablesKeepRules.{keeps_rules, is_timed}
 use Rattle.graph_reader.proofs.read_graph.Goals as goal
 
 pub returns-in-Ok-clause-fault : goal.returns-in-Ok-clause-fault

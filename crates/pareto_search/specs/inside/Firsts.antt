@@ -56,4 +56,4 @@ pub record IsFirstAt (lattice : Lattice) (due : Due) (tellings : List Telling) (
   pub storage : storage_of lattice.axes telling.capacities ≡ due.total
   pub rate : IsAtMost due.rate telling.rate × IsAtMost telling.rate due.rate
   pub first : (ks : List ℕ) → IsAmong lattice ks → storage_of lattice.axes ks ≤ due.total →
-      ((t : Telling) → Contains tellings t → IsAbove due.rate t.rate → All (λ (c : ℕ). slice_index ks c ≤ slice_index t.capacities c) t.enlarge → ⊥) → IsNotAfter telling.capacities ks
+      ((t : Telling) → Contains tellings t → IsAbove due.rate t.rate → All (λ (c : ℕ). slice_index ks c ≤ slice_index t.capacities c) t.bounding → ⊥) → IsNotAfter telling.capacities ks

@@ -1,8 +1,9 @@
 -- What is known of a net: what evaluations told, and the loops of those that may be points.
-use Rattle.std.specs.Prelude.{◌≡◌, ◌≢◌, ℕ, ◌+◌, ◌*◌, ◌≤◌, ◌<◌, All, Contains, Option, None, Some, List, [], ◌∷◌, length, map, slice_get}
+use Rattle.std.specs.Prelude.{◌≡◌, ◌≢◌, ℕ, ◌+◌, ◌*◌, ◌≤◌, ◌<◌, All, Contains, Option, None, Some, List, [], ◌∷◌, length, map, slice_get, slice_index}
 use Rattle.sd_base.specs.declared.limits.Limits.{Limits}
 use Rattle.sd_base.specs.declared.numbers.Fraction.{Fraction}
 use Rattle.sd_base.specs.Net.{Net}
+use Rattle.sd_base.specs.Rates.{Rate}
 use Rattle.lasso.specs.LoopAnswers.{IsFound}
 use Rattle.storage.specs.BoundedNets.{bound}
 use Rattle.guide.specs.declared.rating.Evaluation.{Evaluation}
@@ -22,11 +23,19 @@ abbrev pub counts_in : Outcome → Option (List ℕ)
 counts_in (Live table cycle) = None
 counts_in (Blocked counts lacks) = Some counts
 
--- a reachable distribution of the lattice was evaluated, and told this
+-- no vector of the lattice that has no more than this one on the channels has a greater rate
+abbrev pub BoundsOn : Net → List (Option ℕ) → Lattice → List ℕ → Fraction → List ℕ → Type 0
+BoundsOn net corner lattice ks rate channels =
+    (js : List ℕ) → IsAmong lattice js → All (λ (c : ℕ). slice_index js c ≤ slice_index ks c) channels →
+    (x y : ℕ) → Rate (bound net (bounded_by corner js)) x y → x * rate.den ≤ rate.num * y
+
+-- a reachable distribution of the lattice was evaluated, and told this; it bounds on channels that it shows
 pub record IsTold (net : Net) (limits : Limits) (corner : List (Option ℕ)) (lattice : Lattice) (t : Telling) : Type 0 where
   pub evaluation : Evaluation
   pub evaluated : IsEvaluated net (bounded_by corner t.capacities) limits.states evaluation
   pub enlarge : t.enlarge ≡ evaluation.enlarge
+  pub bounding : All (Contains t.enlarge) t.bounding
+  pub bounds : BoundsOn net corner lattice t.capacities t.rate t.bounding
   pub rate : t.rate ≡ evaluation.rate
   pub blocked : t.blocked ≡ counts_in evaluation.outcome
   pub among : IsAmong lattice t.capacities

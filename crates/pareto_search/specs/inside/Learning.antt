@@ -1,5 +1,5 @@
 -- How what evaluations tell is kept.
-use Rattle.std.specs.Prelude.{◌≡◌, ◌≢◌, ℕ, ◌+◌, Contains, Option, None, Some, List, [], ◌∷◌, ◌++◌, map, slice_get, slice_index}
+use Rattle.std.specs.Prelude.{◌≡◌, ◌≢◌, ℕ, ◌+◌, All, Contains, Option, None, Some, List, [], ◌∷◌, ◌++◌, map, slice_get, slice_index}
 use Rattle.sd_base.specs.declared.limits.Limits.{Limits}
 use Rattle.sd_base.specs.Net.{Net}
 use Rattle.firing.specs.declared.table.LoopTable.{LoopTable}
@@ -17,7 +17,7 @@ use Rattle.explore.specs.Reachable.{IsReachable}
 use Rattle.pareto_search.specs.Entrances.{AreApart}
 use Rattle.pareto_search.specs.declared.known.Known.{Known}
 use Rattle.pareto_search.specs.declared.known.Looped.{Looped}
-use Rattle.pareto_search.specs.inside.Knowledge.{loops_in, ran}
+use Rattle.pareto_search.specs.inside.Knowledge.{BoundsOn, loops_in, ran}
 use Rattle.pareto_search.specs.inside.Vectors.{bounded_by, vector_of}
 
 -- a reachable distribution whose vector is of the lattice, and of none of the tellings
@@ -56,14 +56,21 @@ abbrev pub counts_of : Shown → Option (List ℕ)
 counts_of (Cycle cycle) = None
 counts_of (Blocked counts) = Some counts
 
--- what is kept of a rated distribution
-abbrev pub telling_of : List (Option ℕ) → Rated → Telling
-telling_of ds r = record { capacities = vector_of ds; enlarge = r.enlarge; rate = r.rate; blocked = counts_of r.shown }
+-- what is kept of a rated distribution, which bounds on these channels
+abbrev pub telling_of : List (Option ℕ) → Rated → List ℕ → Telling
+telling_of ds r bounding = record { capacities = vector_of ds; enlarge = r.enlarge; bounding = bounding; rate = r.rate; blocked = counts_of r.shown }
 
 -- the loop that is kept of it, if one is, for the telling at the place
 abbrev pub loops_of : ℕ → Option LoopTable → List Looped
 loops_of place None = []
 loops_of place (Some kept) = record { place = place; table = kept } ∷ []
+
+-- the telling of a rated distribution stands last, and bounds on channels that it shows
+pub record AddsTelling (net : Net) (corner : List (Option ℕ)) (lattice : Lattice) (ds : List (Option ℕ)) (r : Rated) (old new : Known) : Type 0 where
+  pub bounding : List ℕ
+  pub added : new.tellings.items ≡ old.tellings.items ++ telling_of ds r bounding ∷ []
+  pub shown : All (Contains r.enlarge) bounding
+  pub bounds : BoundsOn net corner lattice (vector_of ds) r.rate bounding
 
 -- an answer's telling stands last
 pub record IsLearned (a : Answered) (old new : Known) : Type 0 where

@@ -25,9 +25,9 @@ use Rattle.pareto_search.specs.inside.Knowledge.{IsAbove, IsKnown, told_of}
 use Rattle.pareto_search.specs.inside.Stops.{IsStop}
 use Rattle.pareto_search.specs.inside.Vectors.{bounded_by}
 
--- the bound covers what has no more, on the channels that are shown, than what was told, and its rate is that which was told
+-- the bound covers what has no more, on the channels on which it bounds, than what was told, and its rate is that which was told
 pub record IsBoundOf (t : Telling) (b : Bound) : Type 0 where
-  pub covers : (ks : List ℕ) → Covers b ks ↔ All (λ (c : ℕ). slice_index ks c ≤ slice_index t.capacities c) t.enlarge
+  pub covers : (ks : List ℕ) → Covers b ks ↔ All (λ (c : ℕ). slice_index ks c ≤ slice_index t.capacities c) t.bounding
   pub rate : b.rate ≡ t.rate
 
 -- one of the bounds is that of what was told

@@ -14,7 +14,7 @@ use Rattle.bounded_scenarios.specs.StorageRates.{HasWorstRate}
 use Rattle.bounded_scenarios.specs.ScenarioGuides.{IsInGuide}
 use Rattle.bounded_scenarios.specs.Boundings.{CanBeBounded}
 use Rattle.scenario_storage.specs.declared.point.ScenarioLimits.{ScenarioLimits}
-use Rattle.scenario_storage.specs.declared.rated.Evidence.{Evidence}
+use Rattle.scenario_storage.specs.declared.rated.Witness.{Witness}
 use Rattle.scenario_storage.specs.declared.rated.Rated.{Rated}
 use Rattle.scenario_storage.specs.declared.rated.RateError.{RateError}
 use Rattle.scenario_storage.specs.declared.rated.RateError.TheVariants.{Edges, NoMemory}
@@ -56,18 +56,18 @@ BoundsAll file limit num den =
 abbrev pub IsGuided : ScenarioFile → List (Option ℕ) → ℕ → Type 0
 IsGuided file ds c = IsInGuide file ds c × ((k : ℕ) × (capacity_at ds c ≡ Some k))
 
--- the evidence shows a rate
-abbrev pub Shows : ScenarioFile → List (Option ℕ) → Fraction → Evidence → Type 0
+-- the witness shows a rate
+abbrev pub Shows : ScenarioFile → List (Option ℕ) → Fraction → Witness → Type 0
 Shows file ds rate e = IsShownBy file ds rate e.shared e.graph e.worst
 
--- the worst rate of a distribution, with channels that hold it back and bound it, or none and it bounds all; and the evidence,
+-- the worst rate of a distribution, with channels that hold it back and bound it, or none and it bounds all; and the witness,
 -- or the rate is no more than the best
 pub record IsRated (file : ScenarioFile) (limit : ℕ) (best : Fraction) (ds : List (Option ℕ)) (r : Rated) : Type 0 where
   pub rate : HasWorstRate file ds r.rate.num r.rate.den
   pub guided : (c : ℕ) → Contains r.enlarge c → IsGuided file ds c
   pub bounds : BoundsRates file limit ds r.enlarge r.rate.num r.rate.den
   pub top : r.enlarge ≡ [] → 1 ≤ r.rate.num → BoundsAll file limit r.rate.num r.rate.den
-  pub evidence : MatchOption r.evidence (r.rate.num * best.den ≤ best.num * r.rate.den) (Shows file ds r.rate)
+  pub witness : MatchOption r.witness (r.rate.num * best.den ≤ best.num * r.rate.den) (Shows file ds r.rate)
 
 -- why a distribution isn't rated
 abbrev pub IsRateRefusal : ScenarioFile → List (Option ℕ) → RateError → Type 0

@@ -17,7 +17,7 @@ use Rattle.bounded_scenarios.specs.ScenarioGuides.{IsReachable}
 use Rattle.scenario_storage.specs.declared.level.Answered.{Answered}
 use Rattle.scenario_storage.specs.declared.point.ScenarioLimits.{ScenarioLimits}
 use Rattle.scenario_storage.specs.declared.point.ScenarioPoint.{ScenarioPoint}
-use Rattle.scenario_storage.specs.declared.rated.Evidence.{Evidence}
+use Rattle.scenario_storage.specs.declared.rated.Witness.{Witness}
 use Rattle.scenario_storage.specs.declared.rated.Rated.{Rated}
 use Rattle.scenario_storage.specs.declared.search.Search.{Search}
 use Rattle.scenario_storage.specs.ScenarioPoints.{IsShownBy}
@@ -151,7 +151,7 @@ abbrev pub ShowsNone : Rated → Type 0
 ShowsNone r = (r.enlarge ≡ []) × (1 ≤ r.rate.num)
 
 -- the point has these parts
-pub record IsPointWith (total : ℕ) (rate : Fraction) (capacities : Distribution) (e : Evidence) (p : ScenarioPoint) : Type 0 where
+pub record IsPointWith (total : ℕ) (rate : Fraction) (capacities : Distribution) (e : Witness) (p : ScenarioPoint) : Type 0 where
   pub total_is : p.total ≡ total
   pub rate_is : p.rate ≡ rate
   pub capacities_are : p.capacities ≡ capacities
@@ -165,4 +165,4 @@ KeepsEarlier total old new = (p : ScenarioPoint) → Contains old p → p.total 
 
 -- the distributions that a search has taken off
 abbrev pub taken_off : Search → ℕ
-taken_off s = s.levels.found - length s.levels.waiting.keys
+taken_off s = s.levels.found - length s.levels.waiting

@@ -15,15 +15,15 @@ use Rattle.sd_base.specs.Net.{Channel, Net, channel_at, nowhere, file_channels, 
 use Rattle.sd_base.specs.FileNet.{net_of, own_channels_from, own_channel, gets_own}
 use Rattle.sd_base.specs.Lawful.{Lawful, is_order_role, is_own, is_space_role, is_token_role}
 use Rattle.sd_base.proofs.FileNets.{file-length}
-use Rattle.sd_base.proofs.Lists.{ones-all}
+use Rattle.sd_base.proofs.ElementsKeepPlaces.{ones-all}
 use Rattle.storage.specs.BoundedNets.{bound, spaces_from}
 use Rattle.storage.proofs.NamedCapacities.{spaces-few}
 use Rattle.storage.proofs.SpaceChannels.{SpaceAt, bound-front, bound-back}
 use Rattle.report.specs.LinkTexts.{IsNamed, IsRoleIn}
 use Rattle.ordered.specs.Orders.{AreOrders}
 use Rattle.ordered.specs.OrderedNets.{CanBeOrdered, order_channels, ordered, with_role}
-use Rattle.ordered.proofs.Members.{at-place, OrderAt, order-from, Origin, kept, new, step, origin}
-use Rattle.ordered.proofs.Entries.{times-many}
+use Rattle.ordered.proofs.ChannelsAreKeptOrNew.{at-place, OrderAt, order-from, Origin, kept, new, step, origin}
+use Rattle.ordered.proofs.FiringsHaveEntries.{times-many}
 
 -- ---- names
 

@@ -17,20 +17,20 @@ use Rattle.storage.specs.declared.distribution.Distribution.{Distribution}
 use Rattle.storage.specs.BoundedNets.{bound}
 use Rattle.storage.specs.Distributions.{CanHold, IsDistribution, storage_of}
 use Rattle.storage.proofs.FileChannels.{plain-no_spaces}
-use Rattle.storage.proofs.Fits.{can-hold}
-use Rattle.storage.proofs.Lawfulness.{bound-lawful}
-use Rattle.sd_base.proofs.Containing.{contains-here, contains-later}
+use Rattle.storage.proofs.DistributionsShareLaws.{can-hold}
+use Rattle.storage.proofs.BoundingKeepsLaws.{bound-lawful}
+use Rattle.sd_base.proofs.ContainedHavePlaces.{contains-here, contains-later}
 use Rattle.pareto_front.specs.declared.point.Point.{Point}
 use Rattle.explore.specs.Reachable.{IsExplorable}
 use Rattle.explore.specs.declared.error.ExploreError.{ExploreError}
 use Rattle.explore.specs.declared.error.ExploreError.TheVariants.{StatesSpent}
 use Rattle.explore.specs.Explorations.{IsPoint, IsRefusal}
-use Rattle.explore.proofs.Explorable.{reachable-fits}
+use Rattle.explore.proofs.IncidentNetsExplorable.{reachable-fits}
 use Rattle.cert_text.specs.Spellable.{AreStarts}
 use Rattle.report.specs.LinkTexts.{IsRoleIn, IsNamed}
 use Rattle.sd_command.specs.commands.Points.{IsPointSchedule}
-use Rattle.sd_command.proofs.command_lemmas.Certified.{starts-spelled}
-use Rattle.sd_command.proofs.command_lemmas.Reached.{Lowest, lowest_of}
+use Rattle.sd_command.proofs.command_lemmas.CertificatesArePut.{starts-spelled}
+use Rattle.sd_command.proofs.command_lemmas.LoopsReachRates.{Lowest, lowest_of}
 
 -- ---- distributions over a graph
 

@@ -13,15 +13,15 @@ use Rattle.automaton.specs.SoundGraphs.{IsSound}
 use Rattle.storage.specs.Distributions.{IsDistribution, storage_of}
 use Rattle.storage.specs.Steps.{step_of}
 use Rattle.storage.proofs.CornerLists.{corner-distribution}
-use Rattle.storage.proofs.Enlarging.{distribution-length, enlarged-distribution}
+use Rattle.storage.proofs.EnlargingAddsRoom.{distribution-length, enlarged-distribution}
 use Rattle.bounded_scenarios.specs.BoundedFiles.{bounded_file}
 use Rattle.bounded_scenarios.specs.Boundings.{CanBeBounded, CanBeMeasured}
 use Rattle.bounded_scenarios.specs.ScenarioGuides.{IsReachable, corner, next}
 use Rattle.bounded_scenarios.specs.SharedChannels.{shared_channels, shared_channels_from}
-use Rattle.bounded_scenarios.proofs.Measurable.{measurable}
+use Rattle.bounded_scenarios.proofs.BoundedRatesExist.{measurable}
 use Rattle.scenario_storage.specs.declared.point.ScenarioPoint.{ScenarioPoint}
 use Rattle.scenario_storage.specs.ScenarioPoints.{AreScenarioPoints, IsPoint}
-use Rattle.scenario_storage.proofs.Searchable.{token-roles}
+use Rattle.scenario_storage.proofs.FilesAllowSearch.{token-roles}
 use Rattle.report.specs.ScenarioPointTexts.{CanBeTold}
 use Rattle.sd_command.proofs.command_lemmas.WorstSizes.{path-edges}
 

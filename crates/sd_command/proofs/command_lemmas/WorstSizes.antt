@@ -8,8 +8,8 @@ use Rattle.automaton.specs.declared.graph.TimedGraph.{TimedGraph}
 use Rattle.automaton.specs.CriticalCycles.{IsPath, weights}
 use Rattle.scenario_rate.specs.Answers.{IsApart}
 use Rattle.automaton.specs.SoundGraphs.{IsSound}
-use Rattle.automaton.proofs.Pigeons.{pigeons}
-use Rattle.scenario_rate.proofs.Looping.{weights-light}
+use Rattle.automaton.proofs.TwoAreTheSame.{pigeons}
+use Rattle.scenario_rate.proofs.RaisedWalksLoop.{weights-light}
 
 no-edge : Edge
 no-edge = record { from = 0; to = 0; weight = 0 }

@@ -13,7 +13,7 @@ use Rattle.report.specs.SummaryTexts.{summary_lines}
 use Rattle.sd_steps.specs.declared.answer.Answer.{Answer}
 use Rattle.sd_steps.specs.Courses.{Analysis, Ending, After, ends_by}
 use Rattle.sd_steps.specs.Balancings.{balancing}
-use Rattle.sd_steps.specs.Nets.{touching, completing}
+use Rattle.sd_steps.specs.Nets.{testing_incident, completing}
 use Rattle.sd_command.specs.commands.Points.{IsPointsEnd}
 
 -- what a search up to a total may use where words give no more
@@ -46,7 +46,7 @@ summary seed graph gamma net limits = record {
 -- the summary of a net that has a channel at each actor and completes a round
 abbrev pub summary_of : ℕ → GraphFile → List ℕ → Net → Limits → Ending → ℕ → Type 0
 summary_of seed graph gamma net limits =
-    After (touching graph net) λ touched.
+    After (testing_incident graph net) λ incident.
     After (completing graph net) λ complete.
     ends_by (summary seed graph gamma net limits)
 

@@ -28,7 +28,8 @@ use Rattle.sd_steps.specs.declared.answer.Answer.{Answer}
 use Rattle.sd_command.specs.declared.commands.wanted.WantedPoints.{WantedPoints}
 use Rattle.sd_steps.specs.Certifyings.{Certifies, IsTooLong}
 use Rattle.sd_steps.specs.Courses.{Analysis, Ending, After, ends_by}
-use Rattle.sd_steps.specs.Nets.{touching, completing}
+use Rattle.sd_steps.specs.Nets.{testing_incident, completing}
+use Rattle.sd_command.specs.PlainCertificates.{IsPlainTradeOff}
 
 -- a limit is passed: that of shapes or that of starts, in the execution of a distribution that is reachable; or that of
 -- distributions, of which more are reachable
@@ -51,8 +52,8 @@ pub record ArePointsShown (net : Net) (limits : Limits) (points : List Point) (s
   pub trade_off : IsTradeOff net limits points
   pub reached : AllZip (IsPointSchedule net) points schedules
 
--- a certificate of the points with their schedules, and of the members of an exploration that comes to these points; an execution was
--- counted for each member whose net is live
+-- a certificate of the points with their schedules, and of the members of an exploration that comes to these points, which is plain;
+-- an execution was counted for each member whose net is live
 pub record IsOfPoints (net : Net) (wanted : WantedPoints) (points : List Point) (schedules : List Periodic) (n : ℕ) (certificate : Certificate) : Type 0 where
   pub members : List Member
   pub explored : IsExploration net wanted.limits members points
@@ -60,6 +61,7 @@ pub record IsOfPoints (net : Net) (wanted : WantedPoints) (points : List Point) 
   pub listed : StorageCertificate
   pub is : certificate ≡ certificates.Storage listed
   pub made : IsStorageCertificate net wanted.no_overlap wanted.limits.total members points schedules listed
+  pub plain : IsPlainTradeOff net wanted.limits.states listed
 
 -- what shows the points is printed, and the certificate is one of them; an execution was counted for each of some distributions that
 -- differ, are reachable and have live nets, of which there are no fewer than points
@@ -92,6 +94,6 @@ points_search graph net wanted = record {
 -- the points of a net that has a channel at each actor and completes a round
 abbrev pub points_of : GraphFile → Net → WantedPoints → Ending → ℕ → Type 0
 points_of graph net wanted =
-    After (touching graph net) λ touched.
+    After (testing_incident graph net) λ incident.
     After (completing graph net) λ complete.
     ends_by (points_search graph net wanted)

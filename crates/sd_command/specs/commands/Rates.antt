@@ -21,6 +21,7 @@ use Rattle.sd_command.specs.declared.commands.wanted.WantedRate.{WantedRate}
 use Rattle.sd_steps.specs.Certifyings.{Certifies, IsTooLong}
 use Rattle.sd_steps.specs.Courses.{Analysis}
 use Rattle.sd_steps.specs.Findings.{IsRunRefusal}
+use Rattle.sd_command.specs.PlainCertificates.{IsPlainRate}
 
 -- a schedule and a need cycle show the rate of a net: the schedule is that of the loop of self-timed execution, holds on the
 -- net and reaches the rate; the need cycle is a critical one of the loop, holds on the net and bounds the rate
@@ -36,9 +37,10 @@ pub record IsRateShown (net : Net) (states : ℕ) (schedule : Periodic) (cycle :
   pub reached : schedule.rounds * den ≡ num * schedule.period
   pub bounded : cycle.rounds * den ≡ num * cycle.time
 
--- a certificate of a schedule and a need cycle of a net with these capacities
+-- a certificate of a schedule and a need cycle of a net with these capacities, which is plain
 abbrev pub IsOfRate : Net → List (Option ℕ) → WantedRate → Periodic → NeedCycle → Certificate → Type 0
-IsOfRate net ds wanted schedule cycle c = (r : RateCertificate) × (c ≡ certificates.Rate r) × IsRateCertificate net wanted.no_overlap ds schedule cycle r
+IsOfRate net ds wanted schedule cycle c =
+    (r : RateCertificate) × (c ≡ certificates.Rate r) × IsRateCertificate net wanted.no_overlap ds schedule cycle r × IsPlainRate net wanted.states r
 
 -- what shows the rate is printed, and the certificate is made of it
 pub record IsRateAnswer (graph : GraphFile) (net : Net) (ds : List (Option ℕ)) (wanted : WantedRate) (answer : Answer) : Type 0 where

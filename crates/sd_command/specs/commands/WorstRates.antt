@@ -19,6 +19,7 @@ use Rattle.sd_steps.specs.Certifyings.{Certifies, IsTooLong}
 use Rattle.sd_steps.specs.Courses.{Analysis, Ending, After, ends_by}
 use Rattle.sd_steps.specs.Takings.{Files}
 use Rattle.sd_steps.specs.ScenarioSteps.{opening_scenarios, timing}
+use Rattle.sd_command.specs.PlainCertificates.{IsPlainWorst}
 
 -- a worst rate of a file is shown by its timed graph: by the chosen critical cycle, and by the least potentials that fit, which
 -- stand at the nodes that are reached
@@ -31,9 +32,9 @@ pub record IsShown (file : ScenarioFile) (graph : TimedGraph) (worst : Worst) : 
   pub reached : (v : ℕ) (x : ℤ) → potential_at worst.potentials v ≡ Some x → IsReachedNode graph v
   pub least : AreLeast graph worst.rate.num worst.rate.den (potential_at worst.potentials)
 
--- a certificate of a worst rate
+-- a certificate of a worst rate, which is plain
 abbrev pub IsOfWorst : TimedGraph → Worst → Certificate → Type 0
-IsOfWorst graph worst c = (s : ScenarioCertificate) × (c ≡ certificates.Scenario s) × IsWorstCertificate graph worst s
+IsOfWorst graph worst c = (s : ScenarioCertificate) × (c ≡ certificates.Scenario s) × IsWorstCertificate graph worst s × IsPlainWorst graph s
 
 -- its text is sent, and the certificate is made of it; nothing is executed
 pub record IsWorstAnswer (file : ScenarioFile) (graph : TimedGraph) (certificate : Option (List ℕ)) (answer : Answer) (n : ℕ) : Type 0 where

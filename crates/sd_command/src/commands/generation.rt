@@ -8,9 +8,11 @@ ghost use Rattle.balance.specs.Repetition.{IsRound};
 ghost use Rattle.storage.specs.Distributions.{IsPlain};
 ghost use Rattle.gen_graph.specs.MadeGraphs.{made_graph};
 ghost use Rattle.graph_reader.specs.declared.error.ReadError.TheVariants as reading;
+ghost use Rattle.pareto_search.specs.Entrances.{IsEvaluating};
 ghost use Rattle.report.specs.LinkTexts.{IsNamed};
 ghost use Rattle.sd_words.specs.Asked.{AreLimits, AreMadeActors};
 ghost use Rattle.sd_command.specs.commands.Generations.{generate, summary_of, summed, usual_limits};
+ghost use Rattle.sd_command.specs.Entrances.{generate_entered, summed_entered};
 ghost use Rattle.sd_command.specs.inside.Goings.{Goes};
 
 use crate::commands::parallel::Parallel;
@@ -23,7 +25,7 @@ use report::summary_text;
 use sd_base::limits::{USUAL_DISTRIBUTIONS, USUAL_STATES};
 use sd_base::{GraphFile, Ledger, Limits, NoMemory, Rows, Steps};
 use sd_steps::balancing::balanced;
-use sd_steps::nets::{complete, touch};
+use sd_steps::nets::{complete, test_incident};
 use sd_steps::{Answer, Stop};
 use std::alloc::Global;
 use std::thread::Threads;
@@ -42,6 +44,7 @@ pub(crate) fn answer<R: Threads + Sync, G: Gate + Sync, L: Ledger + Send>(
     requires actors { AreMadeActors actors }
     ensures goes { (faults : ℕ) →
         Goes (generate seed limit actors) result (steps.new.count - steps.old.count) faults faults }
+    ensures entered { IfOk result (λ _. generate_entered seed limit actors (G.entered parallel.now.gate.now) (steps.new.count - steps.old.count)) }
     ensures rises { steps.old.count ≤ steps.new.count }
     ensures share { steps.new.share ≡ steps.old.share }
 {
@@ -111,6 +114,7 @@ fn summed<R: Threads + Sync, G: Gate + Sync, L: Ledger + Send>(
     requires sdf { graph.kind ≡ Sdf }
     requires limits { AreLimits limits }
     ensures goes { (faults : ℕ) → Goes (summed seed limits graph) result (steps.new.count - steps.old.count) faults faults }
+    ensures entered { IfOk result (λ _. summed_entered limits graph (G.entered parallel.now.gate.now) (steps.new.count - steps.old.count)) }
     ensures rises { steps.old.count ≤ steps.new.count }
     ensures share { steps.new.share ≡ steps.old.share }
 {
@@ -134,6 +138,7 @@ fn summary_of_graph<R: Threads + Sync, G: Gate + Sync, L: Ledger + Send>(
     requires limits { AreLimits limits }
     ensures goes { (faults : ℕ) →
         Goes (summary_of made.now.seed made.now.graph made.now.gamma (net_of made.now.graph made.now.gamma true) limits) result (steps.new.count - steps.old.count) faults faults }
+    ensures entered { IfOk result (λ _. IsEvaluating (net_of made.now.graph made.now.gamma true) limits (G.entered parallel.now.gate.now) (steps.new.count - steps.old.count)) }
     ensures rises { steps.old.count ≤ steps.new.count }
     ensures share { steps.new.share ≡ steps.old.share }
 {
@@ -158,10 +163,11 @@ fn summary_of<R: Threads + Sync, F: Firing + Sync, G: Gate + Sync, L: Ledger + S
     requires limits { AreLimits limits }
     ensures goes { (faults : ℕ) →
         Goes (summary_of made.now.seed made.now.graph made.now.gamma (F.net net.now) limits) result (steps.new.count - steps.old.count) faults faults }
+    ensures entered { IfOk result (λ _. IsEvaluating (F.net net.now) limits (G.entered parallel.now.gate.now) (steps.new.count - steps.old.count)) }
     ensures rises { steps.old.count ≤ steps.new.count }
     ensures share { steps.new.share ≡ steps.old.share }
 {
-    touch(alloc, net, &made.graph)?;
+    test_incident(alloc, net, &made.graph)?;
     let wiring = Wiring::new(alloc, net)?;
     let wired = Wired {
         net,

@@ -1,4 +1,5 @@
-ghost use Rattle.std.specs.Prelude.{◌≡◌, ℕ, ◌-◌, ◌*◌, ◌≤◌, All, None, Some, length};
+ghost use Rattle.std.specs.Prelude.{◌≡◌, ℕ, ◌-◌, ◌*◌, ◌≤◌, All, IfOk, None, Some, length};
+ghost use Rattle.std.specs.List.{AllZip};
 ghost use Rattle.sd_base.specs.declared.limits.TheConstants.{NET_CHANNELS, STORAGE};
 ghost use Rattle.sd_base.specs.Tables.{IsTimed, KeepsRules};
 ghost use Rattle.sd_base.specs.Connection.{IsConnected};
@@ -16,7 +17,8 @@ ghost use Rattle.sd_words.specs.Asked.{AreLimits};
 ghost use Rattle.sd_steps.specs.Certifyings.{Certifies, IsTooLong};
 ghost use Rattle.sd_steps.specs.Courses.{deciding, ends_by};
 ghost use Rattle.sd_steps.specs.Steps.{Does};
-ghost use Rattle.sd_command.specs.commands.Points.{IsOfPoints, points_of, points_search};
+ghost use Rattle.sd_command.specs.commands.Points.{IsOfPoints, IsPointSchedule, points_of, points_search};
+ghost use Rattle.sd_command.specs.Entrances.{IsSearched};
 ghost use Rattle.sd_command.specs.inside.Goings.{Goes};
 
 use crate::commands::parallel::Parallel;
@@ -30,7 +32,7 @@ use firing::{CsdfNet, Firing, SdfNet, Wired, Wiring, know_laws};
 use periodic::Periodic;
 use sd_base::{GraphFile, Kind, Ledger, Steps, Text};
 use sd_steps::certifying::certify;
-use sd_steps::nets::{complete, touch};
+use sd_steps::nets::{complete, test_incident};
 use sd_steps::{Answer, FileKind, Put, Stop};
 use std::alloc::Global;
 use std::thread::Threads;
@@ -50,6 +52,7 @@ pub(crate) fn points_of_graph<R: Threads + Sync, G: Gate + Sync, L: Ledger + Sen
     requires limits { AreLimits wanted.now.limits }
     ensures goes { (faults : ℕ) →
         Goes (points_of graph.now (net_of graph.now gamma.now wanted.now.no_overlap) wanted.now) result (steps.new.count - steps.old.count) faults faults }
+    ensures entered { IfOk result (λ _. IsSearched (net_of graph.now gamma.now wanted.now.no_overlap) wanted.now (G.entered parallel.now.gate.now) (steps.new.count - steps.old.count)) }
     ensures rises { steps.old.count ≤ steps.new.count }
     ensures share { steps.new.share ≡ steps.old.share }
 {
@@ -82,10 +85,11 @@ pub(crate) fn points_of<R: Threads + Sync, F: Firing + Sync, G: Gate + Sync, L: 
     requires few { 2 * length (F.net net.now).channels ≤ NET_CHANNELS }
     requires limits { AreLimits wanted.now.limits }
     ensures goes { (faults : ℕ) → Goes (points_of graph.now (F.net net.now) wanted.now) result (steps.new.count - steps.old.count) faults faults }
+    ensures entered { IfOk result (λ _. IsSearched (F.net net.now) wanted.now (G.entered parallel.now.gate.now) (steps.new.count - steps.old.count)) }
     ensures rises { steps.old.count ≤ steps.new.count }
     ensures share { steps.new.share ≡ steps.old.share }
 {
-    touch(alloc, net, graph)?;
+    test_incident(alloc, net, graph)?;
     let wiring = Wiring::new(alloc, net)?;
     let wired = Wired {
         net,
@@ -112,6 +116,7 @@ fn without_certificate<R: Threads + Sync, F: Firing + Sync, G: Gate + Sync, L: L
     requires limits { AreLimits wanted.now.limits }
     requires asked { wanted.now.certificate ≡ None }
     ensures goes { (faults : ℕ) → Goes (ends_by (points_search graph.now (F.net net.now) wanted.now)) result (steps.new.count - steps.old.count) faults faults }
+    ensures entered { IfOk result (λ _. IsSearched (F.net net.now) wanted.now (G.entered parallel.now.gate.now) (steps.new.count - steps.old.count)) }
     ensures rises { steps.old.count ≤ steps.new.count }
     ensures share { steps.new.share ≡ steps.old.share }
 {
@@ -139,6 +144,7 @@ fn with_certificate<R: Threads + Sync, F: Firing + Sync, G: Gate + Sync, L: Ledg
     requires limits { AreLimits wanted.now.limits }
     requires asked { wanted.now.certificate ≡ Some name.now }
     ensures goes { (faults : ℕ) → Goes (ends_by (points_search graph.now (F.net net.now) wanted.now)) result (steps.new.count - steps.old.count) faults faults }
+    ensures entered { IfOk result (λ _. IsSearched (F.net net.now) wanted.now (G.entered parallel.now.gate.now) (steps.new.count - steps.old.count)) }
     ensures rises { steps.old.count ≤ steps.new.count }
     ensures share { steps.new.share ≡ steps.old.share }
 {
@@ -172,6 +178,7 @@ fn put_as<F: Firing>(
     requires total { wanted.now.limits.total ≤ STORAGE }
     requires explored { IsExploration (F.net net.now) wanted.now.limits exploration.members.items exploration.points.items }
     requires many { length schedules.items ≡ length exploration.points.items }
+    requires reached { AllZip (IsPointSchedule (F.net net.now)) exploration.points.items schedules.items }
     requires starts { All (λ (s : APeriodic). All AreStarts s.starts) schedules.items }
     ensures { let shows : ACertificate → Type 0 = IsOfPoints (F.net net.now) wanted.now exploration.points.items schedules.items (cycles_in exploration.members.items) in
         Does (deciding (λ put. Certifies (Some name.now) shows (Some put)) (IsTooLong (Some name.now) shows)) result }

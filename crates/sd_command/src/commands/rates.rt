@@ -7,7 +7,7 @@ ghost use Rattle.cert_maker.specs.Links.{HasNoOrders};
 ghost use Rattle.sd_base.specs.Connection.{IsStronglyConnected};
 ghost use Rattle.sd_words.specs.Asked.{AreStates};
 ghost use Rattle.sd_steps.specs.Nets.{IsFed, on_live};
-ghost use Rattle.sd_command.specs.commands.Rates.{IsOfRate, IsRateAnswer, IsRateTooLong, execution};
+ghost use Rattle.sd_command.specs.commands.Rates.{IsRateAnswer, IsRateTooLong, execution};
 ghost use Rattle.sd_steps.specs.Findings.{finding};
 ghost use Rattle.critical.specs.declared.cycle.CycleStep.{CycleStep as AStep};
 ghost use Rattle.cert_text.specs.declared.certificates.Certificate.{Certificate as ACertificate};
@@ -16,6 +16,7 @@ ghost use Rattle.sd_steps.specs.Certifyings.{Certifies, IsTooLong};
 ghost use Rattle.sd_steps.specs.Courses.{deciding};
 ghost use Rattle.sd_steps.specs.Steps.{Does};
 ghost use Rattle.sd_command.specs.inside.Goings.{Goes};
+ghost use Rattle.sd_command.specs.inside.MadeCertificates.{IsMadeOfRate};
 
 use crate::commands::wanted::WantedRate;
 use cert_maker::rate_certificate;
@@ -120,7 +121,7 @@ fn put_for<F: Firing>(
     requires period { 1 ≤ schedule.period }
     requires starts { All AreStarts schedule.starts }
     requires channels { All (λ (s : AStep). s.channel < length (F.net net.now).channels) cycle.now.steps }
-    ensures { let shows : ACertificate → Type 0 = IsOfRate (F.net net.now) distribution.now.capacities wanted.now schedule cycle.now in
+    ensures { let shows : ACertificate → Type 0 = IsMadeOfRate (F.net net.now) distribution.now.capacities wanted.now schedule cycle.now in
         Does (deciding (Certifies wanted.now.certificate shows) (IsTooLong wanted.now.certificate shows)) result }
 {
     match &wanted.certificate {

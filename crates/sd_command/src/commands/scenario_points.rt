@@ -4,9 +4,11 @@ ghost use Rattle.sd_base.specs.Scenarios.{FileKeepsRules};
 ghost use Rattle.scenario_reader.specs.ScenarioNames.{FileHasWritableNames};
 ghost use Rattle.bounded_scenarios.specs.Boundings.{CanBeBounded};
 ghost use Rattle.report.specs.ScenarioPointTexts.{CanBeTold};
+ghost use Rattle.scenario_storage.specs.Entrances.{AreEntered};
 ghost use Rattle.scenario_storage.specs.ScenarioPoints.{AreScenarioPoints};
 ghost use Rattle.sd_steps.specs.Courses.{deciding};
 ghost use Rattle.sd_command.specs.commands.ScenarioPoints.{IsSearchEnd, points_in, scenario_storage};
+ghost use Rattle.sd_command.specs.Entrances.{points_entered, scenario_storage_entered};
 ghost use Rattle.sd_steps.specs.Takings.{Files};
 ghost use Rattle.sd_steps.specs.Steps.{Does};
 ghost use Rattle.sd_command.specs.inside.Goings.{AnswersFrom, Goes};
@@ -39,6 +41,8 @@ pub(crate) fn answer<R: Threads + Sync, S: Shelf, G: Gate + Sync>(
     ensures answers { let before : Files = record { tells = S.tells shelf.old; named = S.file shelf.old } in
         let after : Files = record { tells = S.tells shelf.new; named = S.file shelf.new } in
         AnswersFrom (scenario_storage name.now limits) before after (S.faults shelf.old) (S.faults shelf.new) result 0 }
+    ensures entered { let before : Files = record { tells = S.tells shelf.old; named = S.file shelf.old } in
+        IfOk result (λ _. scenario_storage_entered name.now limits before (G.entered parallel.now.gate.now)) }
 {
     let file = open_scenarios(alloc, shelf, name)?;
     points_in(parallel, alloc, &file, limits)
@@ -56,7 +60,8 @@ fn points_in<R: Threads + Sync, G: Gate + Sync>(
     requires total { limits.total ≤ STORAGE }
     requires some { LEAST_DISTRIBUTIONS ≤ limits.distributions }
     requires few { limits.distributions ≤ DISTRIBUTIONS }
-    ensures { (faults : ℕ) → Goes (points_in limits file.now) result 0 faults faults }
+    ensures goes { (faults : ℕ) → Goes (points_in limits file.now) result 0 faults faults }
+    ensures entered { IfOk result (λ _. points_entered limits file.now (G.entered parallel.now.gate.now)) }
 {
     let tokens = limits.total + looped_tokens(file);
     bound_all(alloc, file, tokens)?;
@@ -81,6 +86,7 @@ fn search<R: Threads + Sync, G: Gate + Sync>(
     requires few { limits.distributions ≤ DISTRIBUTIONS }
     ensures does { Does (deciding (λ points. AreScenarioPoints file.now limits points.items) (IsSearchEnd file.now limits)) result }
     ensures told { IfOk result (λ points. All (CanBeTold file.now) points.items) }
+    ensures entered { IfOk result (λ points. AreEntered file.now limits (G.entered parallel.now.gate.now) points.items) }
 {
     files_are_sound();
     match scenario_points(parallel.rt, alloc, file, limits, parallel.gate) {

@@ -6,7 +6,9 @@ ghost use Rattle.storage.specs.declared.distribution.Distribution.{Distribution 
 ghost use Rattle.explore.specs.declared.error.ExploreError.TheVariants as causes;
 ghost use Rattle.explore.specs.declared.exploration.Exploration.{Exploration as AnExploration};
 ghost use Rattle.explore.specs.Reachable.{IsExplorable};
-ghost use Rattle.explore.specs.Explorations.{CountsFew, CountsLive, IsExploration, IsRefusal, cycles_in};
+ghost use Rattle.explore.specs.Explorations.{CountsFew, CountsLive, IsExploration, IsRefusal, capacities_of, cycles_in};
+ghost use Rattle.levels.specs.Entrances.{EnterByLevels};
+ghost use Rattle.pareto_search.specs.Entrances.{IsEvaluating};
 ghost use Rattle.pareto_search.specs.TradeOffs.{IsTradeOff};
 ghost use Rattle.report.specs.LinkTexts.{IsNamed};
 ghost use Rattle.sd_words.specs.Asked.{AreLimits};
@@ -41,6 +43,7 @@ pub(crate) fn points_within<R: Threads + Sync, F: Firing + Sync, G: Gate + Sync,
     requires limits { AreLimits limits }
     ensures does { Does (deciding (λ points. IsTradeOff (F.net net.now) limits points.items) (IsPointsEnd graph.now (F.net net.now) limits)) result }
     ensures live { IfOk result (λ _. (n : ℕ) → steps.new.count ≡ steps.old.count + n → CountsLive (F.net net.now) limits n) }
+    ensures entered { IfOk result (λ _. (n : ℕ) → steps.new.count ≡ steps.old.count + n → IsEvaluating (F.net net.now) limits (G.entered parallel.now.gate.now) n) }
     ensures least { IfOk result (λ points. steps.old.count + length points.items ≤ steps.new.count) }
     ensures most { CountsFew (F.net net.now) limits steps.old.count steps.new.count }
     ensures rises { steps.old.count ≤ steps.new.count }
@@ -68,6 +71,7 @@ pub(crate) fn explored<R: Threads + Sync, F: Firing + Sync, G: Gate + Sync, L: L
     ensures does { Does (deciding (λ (e : AnExploration). IsExploration (F.net net.now) limits e.members.items e.points.items) (IsPointsEnd graph.now (F.net net.now) limits)) result }
     ensures counts { IfOk result (λ e. steps.new.count ≡ steps.old.count + cycles_in e.members.items) }
     ensures live { IfOk result (λ _. (n : ℕ) → steps.new.count ≡ steps.old.count + n → CountsLive (F.net net.now) limits n) }
+    ensures entered { IfOk result (λ e. EnterByLevels (F.net net.now).channels (G.entered parallel.now.gate.now) (capacities_of e.members.items)) }
     ensures least { IfOk result (λ e. steps.old.count + length e.points.items ≤ steps.new.count) }
     ensures most { CountsFew (F.net net.now) limits steps.old.count steps.new.count }
     ensures rises { steps.old.count ≤ steps.new.count }

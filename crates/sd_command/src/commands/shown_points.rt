@@ -1,7 +1,7 @@
 //! What an answer shows of the points of an exploration, made side by side.
 //!
 //! Schedules and lines of points are made side by side, by jobs as the members of a level are evaluated. The gate of the
-//! top call isn't entered for them: it is there for distributions. They fill memory that was never touched, 5 MB of starts
+//! top call isn't entered for them: it is there for distributions. They fill memory that was never used, 5 MB of starts
 //! and 2.4 MB of text for the decoder, and on one thread they would be most of what is done alone. Each job makes its
 //! point's schedule and lines (`point_text`), and the lines are put behind each other after the first one
 //! (`points_header`). `points_text` makes the same text on one thread, for callers who have the schedules.

@@ -7,9 +7,10 @@ ghost use Rattle.cert_text.specs.declared.certificates.Certificate.{Certificate 
 ghost use Rattle.sd_steps.specs.Certifyings.{Certifies, IsTooLong};
 ghost use Rattle.sd_steps.specs.Courses.{deciding, ends_by};
 ghost use Rattle.sd_steps.specs.Takings.{Files};
-ghost use Rattle.sd_command.specs.commands.WorstRates.{IsOfWorst, scenario, telling_worst, worst_of};
+ghost use Rattle.sd_command.specs.commands.WorstRates.{scenario, telling_worst, worst_of};
 ghost use Rattle.sd_steps.specs.Steps.{Does};
 ghost use Rattle.sd_command.specs.inside.Goings.{AnswersFrom, Goes};
+ghost use Rattle.sd_command.specs.inside.MadeCertificates.{IsMadeOfWorst};
 
 use automaton::TimedGraph;
 use cert_maker::worst_certificate;
@@ -77,7 +78,7 @@ fn put_for(
     requires cycle { All (λ k. k < length graph.now.edges) worst.now.cycle }
     requires small { weights graph.now.edges worst.now.cycle < 2 ^ 64 }
     requires nodes { length worst.now.potentials < 2 ^ 32 }
-    ensures { let shows : ACertificate → Type 0 = IsOfWorst graph.now worst.now in
+    ensures { let shows : ACertificate → Type 0 = IsMadeOfWorst graph.now worst.now in
         Does (deciding (Certifies certificate.now shows) (IsTooLong certificate.now shows)) result }
 {
     match certificate {

@@ -1,7 +1,7 @@
 use Rattle.std.proofs.Common.{◌∙◌, ap, sym, subst}
 use Rattle.sd_words.specs.declared.request.Request.{Request}
 use Rattle.sd_words.specs.Asked.{IsWithinLimits, request_for}
-use Rattle.sd_words.proofs.States.{request-within}
+use Rattle.sd_words.proofs.ReadNumbersFit.{request-within}
 use Rattle.sd_words.proofs.request_given.Goals as goal
 
 pub request_for-requires : goal.request_for-requires

@@ -3,8 +3,8 @@ use Rattle.std.specs.Prelude.{◌≡◌, ℕ, ◌+◌, ◌-◌, ◌^◌, ◌≤�
 use Rattle.std.specs.List.{list_any, sum_by, IsDistinct}
 use Rattle.sd_base.specs.Net.{Net, channel_at, phase_entry}
 use Rattle.sd_base.specs.Schedules.{Needs}
-use Rattle.sd_base.proofs.Moment.{Able}
-use Rattle.sd_base.proofs.Ends.{sum_to}
+use Rattle.sd_base.proofs.NextMomentIsEarliest.{Able}
+use Rattle.sd_base.proofs.FiringOrdersEnd.{sum_to}
 use Rattle.selftimed.specs.inside.Ports.{IsOther}
 use Rattle.selftimed.specs.inside.Starts.{AddsEnds, StartsAll}
 use Rattle.firing.specs.Wiring.{IsLevel}

@@ -5,7 +5,7 @@ use Rattle.std.specs.List.{list_any}
 use Rattle.sd_base.specs.Net.{Channel, Net}
 use Rattle.sd_base.specs.Schedules.{Lacks, count_of, end_of}
 use Rattle.sd_base.specs.SelfTimed.{ended_by, earliest, is_event}
-use Rattle.sd_base.proofs.Ends.{sum_to}
+use Rattle.sd_base.proofs.FiringOrdersEnd.{sum_to}
 use Rattle.selftimed.specs.declared.actors.ActorState.{ActorState}
 use Rattle.selftimed.specs.inside.Actors.{started_in, ended_in, running_in, touched_in, lacking_in, LacksAt, Stand, Counted}
 

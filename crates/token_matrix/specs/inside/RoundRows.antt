@@ -4,7 +4,7 @@ use Rattle.sd_base.specs.declared.limits.TheConstants.{TIME}
 use Rattle.sd_base.specs.Net.{Net, channel_at, total}
 use Rattle.sd_base.specs.Schedules.{time_of, HasInputs}
 use Rattle.sd_base.specs.Untimed.{none_fired, counts_after, IsRoundOrder}
-use Rattle.sd_base.proofs.Ends.{sum_to}
+use Rattle.sd_base.proofs.FiringOrdersEnd.{sum_to}
 use Rattle.token_matrix.specs.Stamps.{IsTakenBy, IsPutBy}
 use Rattle.token_matrix.specs.inside.LaterRows.{AreWide}
 use Rattle.token_matrix.specs.inside.Lines.{line_at, HasOnePhase}

@@ -1,7 +1,7 @@
 use Rattle.std.proofs.Common.{ℕ, ◌+◌, ◌++◌, ◌∙◌, ap, refl, List, Option, length}
 use Rattle.std.proofs.lemmas.Option.{slice_get_read}
 use Rattle.automaton.specs.TimedGraphs.{edges_into}
-use Rattle.automaton.proofs.Adding.{added-row}
+use Rattle.automaton.proofs.EdgesAddInTurn.{added-row}
 use Rattle.automaton.proofs.edges.add_rows.Goals as goal
 
 pub loop-row-preserved : goal.loop-row-preserved

@@ -1,6 +1,6 @@
 use Rattle.std.proofs.Common.{refl, length}
 use Rattle.std.proofs.lemmas.Option.{slice_get_read}
-use Rattle.automaton.proofs.Adding.{added-state}
+use Rattle.automaton.proofs.EdgesAddInTurn.{added-state}
 use Rattle.automaton.proofs.edges.add_states.Goals as goal
 
 pub loop-place-preserved : goal.loop-place-preserved

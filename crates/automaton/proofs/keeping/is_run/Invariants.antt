@@ -1,4 +1,4 @@
-use Rattle.automaton.proofs.Kept.{NoneRuns}
+use Rattle.automaton.proofs.KeptMatricesSuffice.{NoneRuns}
 use Rattle.automaton.proofs.keeping.is_run.Given as goal
 
 abbrev pub invariant-loop-state : goal.invariant-loop-state

@@ -3,7 +3,7 @@ use Rattle.sd_base.specs.declared.tables.StateRow.{StateRow}
 use Rattle.sd_base.specs.Scenarios.{shared_count}
 use Rattle.automaton.specs.declared.graph.Edge.{Edge}
 use Rattle.automaton.specs.TimedGraphs.{edges_from}
-use Rattle.automaton.proofs.Kept.{is-product}
+use Rattle.automaton.proofs.KeptMatricesSuffice.{is-product}
 use Rattle.automaton.proofs.making.product.Goals as goal
 
 pub returns-clause-product : goal.returns-clause-product

@@ -6,7 +6,7 @@ use Rattle.balance.specs.declared.search.Found.{Found}
 use Rattle.balance.specs.inside.Search.{IsFound}
 use Rattle.balance.specs.inside.Ratios.{IsClosedRefusal}
 use Rattle.balance.proofs.LeastRounds.{small_at}
-use Rattle.balance.proofs.Keeping.{ready, kept_refusal}
+use Rattle.balance.proofs.FirstBreachRefuses.{ready, kept_refusal}
 use Rattle.balance.proofs.closed.all_kept.Goals as goal
 
 none : Link

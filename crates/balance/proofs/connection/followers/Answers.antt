@@ -3,7 +3,7 @@ use Rattle.std.specs.Prelude.{slice_get, slice_index_or}
 use Rattle.std.proofs.lemmas.Option.{slice_get-get_or}
 use Rattle.balance.specs.inside.Lists.{appended}
 use Rattle.balance.specs.inside.Reaching.{AreFollowers, pair_from, pair_to}
-use Rattle.balance.proofs.Paths.{followers_more, pair_within}
+use Rattle.balance.proofs.MarksFollowPaths.{followers_more, pair_within}
 use Rattle.balance.proofs.connection.followers.Goals as goal
 
 pub loop-pair-preserved : goal.loop-pair-preserved

@@ -1,7 +1,7 @@
 use Rattle.std.proofs.Common.{◌≡◌, ℕ, ◌<◌, List, Some, length, arith}
 use Rattle.std.specs.Prelude.{slice_get, slice_index_or}
 use Rattle.std.proofs.lemmas.Option.{slice_get-get_or}
-use Rattle.balance.proofs.Paths.{marked_more}
+use Rattle.balance.proofs.MarksFollowPaths.{marked_more}
 use Rattle.balance.proofs.connection.mark_all.Goals as goal
 
 pub loop-to-preserved : goal.loop-to-preserved

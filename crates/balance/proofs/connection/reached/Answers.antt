@@ -3,8 +3,8 @@ use Rattle.std.specs.Prelude.{slice_set}
 use Rattle.std.proofs.lemmas.Option.{slice_get_read}
 use Rattle.balance.specs.inside.Lists.{list_at}
 use Rattle.balance.specs.inside.Reaching.{AreMarked}
-use Rattle.balance.proofs.Searching.{mark_within}
-use Rattle.balance.proofs.Paths.{IsReach, reach_start, reach_more, reach_past, reach_closed, followers_within, all_marked}
+use Rattle.balance.proofs.SearchFindsWays.{mark_within}
+use Rattle.balance.proofs.MarksFollowPaths.{IsReach, reach_start, reach_more, reach_past, reach_closed, followers_within, all_marked}
 use Rattle.balance.proofs.connection.reached.Goals as goal
 use Rattle.balance.proofs.connection.reached.Goals.{then-place-len+in_ok-mark_all, else-place-len}
 

@@ -1,4 +1,4 @@
-use Rattle.balance.proofs.Paths.{IsReach}
+use Rattle.balance.proofs.MarksFollowPaths.{IsReach}
 use Rattle.balance.proofs.connection.reached.Given as goal
 
 abbrev pub invariant-loop-place : goal.invariant-loop-place

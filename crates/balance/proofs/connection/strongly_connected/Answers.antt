@@ -1,6 +1,6 @@
 use Rattle.std.proofs.Common.{◌≡◌, ℕ, ◌<◌, List, Bool, length, true, subst, ap, arith}
 use Rattle.balance.specs.inside.Search.{mark_at}
-use Rattle.balance.proofs.Paths.{through}
+use Rattle.balance.proofs.MarksFollowPaths.{through}
 use Rattle.balance.proofs.connection.strongly_connected.Goals as goal
 
 -- the marks that the code reads

@@ -1,6 +1,6 @@
 use Rattle.std.proofs.lemmas.Nat.Gcd.{IsGcd-swap}
-use Rattle.sd_base.proofs.Divisors.{gcd_pos}
-use Rattle.balance.proofs.Fractions.{lowest_by}
+use Rattle.sd_base.proofs.LeastMultiplesDivide.{gcd_pos}
+use Rattle.balance.proofs.LowestTermsAreOne.{lowest_by}
 use Rattle.balance.proofs.ratio.lowest.Goals as goal
 
 pub nonzero_div-result : goal.nonzero_div-result

@@ -6,7 +6,7 @@ use Rattle.balance.specs.declared.ratio.Ratio.{Ratio}
 use Rattle.balance.specs.declared.search.Found.{Found}
 use Rattle.balance.specs.inside.Search.{IsWayAt}
 use Rattle.balance.specs.inside.Ratios.{one, IsRatedStep}
-use Rattle.balance.proofs.Rating.{IsRating, IsStepped, rating_start, rating_ready, rating_within, rating_more, rating_above, rating_all}
+use Rattle.balance.proofs.WaysGetRatios.{IsRating, IsStepped, rating_start, rating_ready, rating_within, rating_more, rating_above, rating_all}
 use Rattle.balance.proofs.ratio.ratios.Goals as goal
 
 pub loop-place-init : goal.loop-place-init

@@ -1,5 +1,5 @@
 use Rattle.std.proofs.Common.{length}
-use Rattle.balance.proofs.Rating.{IsRating}
+use Rattle.balance.proofs.WaysGetRatios.{IsRating}
 use Rattle.balance.proofs.ratio.ratios.Given as goal
 
 abbrev pub invariant-loop-place : goal.invariant-loop-place

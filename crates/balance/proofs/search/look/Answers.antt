@@ -3,7 +3,7 @@ use Rattle.std.specs.Prelude.{slice_get}
 use Rattle.std.proofs.lemmas.Option.{slice_get_read}
 use Rattle.std.proofs.lemmas.Result.{on_ok_weaker}
 use Rattle.balance.specs.declared.search.Found.{Found}
-use Rattle.balance.proofs.Searching.{mark_read, stepped, no_step}
+use Rattle.balance.proofs.SearchFindsWays.{mark_read, stepped, no_step}
 use Rattle.balance.proofs.search.look.Goals as goal
 use Rattle.balance.proofs.search.look.Goals.{else-from-link-via-then-from-link+else-not-index, else-from-link-via-else-from-link, else-from-link-2-via-then-from-link-2+else-not-index-2, else-from-link-2-via-else-from-link-2}
 

@@ -2,7 +2,7 @@ use Rattle.std.proofs.Common.{length, List, Bool, subst, sym, arith, ◌≤◌, 
 use Rattle.std.specs.Prelude.{slice_set}
 use Rattle.balance.specs.declared.search.Found.{Found}
 use Rattle.balance.specs.inside.Search.{IsSearching}
-use Rattle.balance.proofs.Searching.{started, place_past, finished}
+use Rattle.balance.proofs.SearchFindsWays.{started, place_past, finished}
 use Rattle.balance.proofs.search.ways.Goals as goal
 use Rattle.balance.proofs.search.ways.Goals.{then-place-len+in_ok-visit, else-place-len}
 

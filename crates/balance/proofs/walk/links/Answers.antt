@@ -4,7 +4,7 @@ use Rattle.std.proofs.lemmas.Option.{slice_get_read}
 use Rattle.sd_base.specs.declared.tables.GraphFile.{GraphFile}
 use Rattle.sd_base.specs.declared.tables.ChannelRow.{ChannelRow}
 use Rattle.sd_base.specs.Tables.{KeepsRules}
-use Rattle.balance.proofs.TableLemmas.{channel_sums}
+use Rattle.balance.proofs.RulesBoundLinks.{channel_sums}
 use Rattle.balance.proofs.walk.links.Goals as goal
 
 -- the channel that the loop reads

@@ -4,7 +4,7 @@ use Rattle.std.proofs.lemmas.Option.{slice_get-get_or}
 use Rattle.balance.specs.declared.walk.WalkStep.{WalkStep}
 use Rattle.balance.specs.declared.search.Found.{Found}
 use Rattle.balance.specs.inside.Search.{IsWayAt}
-use Rattle.balance.proofs.Ways.{IsReadBack, falls, read_more, read_whole}
+use Rattle.balance.proofs.WaysReadBack.{IsReadBack, falls, read_more, read_whole}
 use Rattle.balance.proofs.way.way_at.Goals as goal
 
 none : Found

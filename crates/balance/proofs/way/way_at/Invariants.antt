@@ -1,5 +1,5 @@
 use Rattle.std.proofs.Common.{◌<◌, length}
-use Rattle.balance.proofs.Ways.{IsReadBack}
+use Rattle.balance.proofs.WaysReadBack.{IsReadBack}
 use Rattle.balance.proofs.way.way_at.Given as goal
 
 abbrev pub invariant-back : goal.invariant-back

@@ -1,5 +1,5 @@
-use Rattle.bounded_scenarios.proofs.Counts.{dist-long}
-use Rattle.bounded_scenarios.proofs.JointChannels.{cover-all}
+use Rattle.bounded_scenarios.proofs.StorageCountsTokens.{dist-long}
+use Rattle.bounded_scenarios.proofs.MergedChannels.{cover-all}
 use Rattle.bounded_scenarios.proofs.bounding.bounded_file.Goals as goal
 
 pub bounded_rows-requires : goal.bounded_rows-requires

@@ -1,4 +1,4 @@
-use Rattle.bounded_scenarios.proofs.Measurable.{measurable}
+use Rattle.bounded_scenarios.proofs.BoundedRatesExist.{measurable}
 use Rattle.bounded_scenarios.proofs.laws.bounded_files_can_be_measured.Goals as goal
 
 pub returns : goal.returns

@@ -3,7 +3,7 @@ use Rattle.std.specs.Prelude.{slice_get}
 use Rattle.std.proofs.lemmas.Bool.{cases_lt, false≢true}
 use Rattle.std.proofs.lemmas.Option.{slice_get-get_or, slice_get_within}
 use Rattle.sd_base.specs.declared.tables.ChannelRow.{ChannelRow}
-use Rattle.bounded_scenarios.proofs.Scanning.{first-named}
+use Rattle.bounded_scenarios.proofs.ScanStepsHold.{first-named}
 use Rattle.bounded_scenarios.proofs.naming.channel_named.Goals as goal
 
 pub returns-then-is_same : goal.returns-then-is_same

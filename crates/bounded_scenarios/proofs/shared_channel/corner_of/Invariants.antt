@@ -1,4 +1,4 @@
-use Rattle.bounded_scenarios.proofs.JointChannels.{CornerSoFar}
+use Rattle.bounded_scenarios.proofs.MergedChannels.{CornerSoFar}
 use Rattle.bounded_scenarios.proofs.shared_channel.corner_of.Given as goal
 
 abbrev pub invariant-loop-row : goal.invariant-loop-row

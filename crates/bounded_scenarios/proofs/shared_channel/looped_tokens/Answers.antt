@@ -1,10 +1,10 @@
 use Rattle.std.proofs.Common.{◌≡◌, ◌∙◌, true, List, sym, ap, arith}
 use Rattle.sd_base.specs.declared.tables.ScenarioRow.{ScenarioRow}
-use Rattle.sd_base.proofs.Lists.{item-at}
+use Rattle.sd_base.proofs.ElementsKeepPlaces.{item-at}
 use Rattle.bounded_scenarios.specs.SharedChannels.{channels_named, is_looped}
-use Rattle.bounded_scenarios.proofs.Counts.{looped-few}
-use Rattle.bounded_scenarios.proofs.JointChannels.{few-tokens, name-all}
-use Rattle.bounded_scenarios.proofs.Scanning.{looped-row}
+use Rattle.bounded_scenarios.proofs.StorageCountsTokens.{looped-few}
+use Rattle.bounded_scenarios.proofs.MergedChannels.{few-tokens, name-all}
+use Rattle.bounded_scenarios.proofs.ScanStepsHold.{looped-row}
 use Rattle.bounded_scenarios.proofs.shared_channel.looped_tokens.Goals as goal
 
 pub is_looped-requires : goal.is_looped-requires

@@ -4,7 +4,7 @@ use Rattle.cert_checker.specs.declared.best_rates.Best.{Best}
 use Rattle.cert_checker.specs.StorageCertificates.{no_point, point_at}
 use Rattle.cert_checker.specs.inside.Bests.{HasUpTo}
 use Rattle.cert_checker.proofs.BestRates.{AreRates, HasBelowFirst, rates-none, rates-push, rates-skip}
-use Rattle.cert_checker.proofs.Glue.{item-of}
+use Rattle.cert_checker.proofs.AnswersJudgeLines.{item-of}
 use Rattle.cert_checker.proofs.best_rates.rates_of.Goals as goal
 use Rattle.cert_checker.proofs.best_rates.rates_of.Goals.{then-point-ne0+in_ok-push, else-point-ne0}
 

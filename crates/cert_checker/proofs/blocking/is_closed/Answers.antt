@@ -1,7 +1,7 @@
 use Rattle.std.proofs.Common.{ℕ, ◌<◌, below_more, slice_index, sym, ◌∙◌, true≢false, ⊎_elim, arith}
 use Rattle.sd_base.specs.Schedules.{Lacks}
 use Rattle.sd_base.specs.Untimed.{CanFire}
-use Rattle.storage.proofs.Kept.{can_or_lacks}
+use Rattle.storage.proofs.BlockingStays.{can_or_lacks}
 use Rattle.cert_checker.proofs.blocking.is_closed.Goals as goal
 use Rattle.cert_checker.proofs.blocking.is_closed.Goals.{else-counts-actor-via-then-counts-actor+else-can_fire, else-counts-actor-via-else-counts-actor}
 

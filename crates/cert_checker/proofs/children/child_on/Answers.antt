@@ -1,7 +1,7 @@
 use Rattle.std.proofs.Common.{◌≤◌, List, Option, ℕ, length, subst, sym, arith}
 use Rattle.storage.specs.Distributions.{enlarged}
-use Rattle.storage.proofs.Enlarging.{distribution-length, enlarged-distribution, hold-small}
-use Rattle.storage.proofs.Fits.{can-hold}
+use Rattle.storage.proofs.EnlargingAddsRoom.{distribution-length, enlarged-distribution, hold-small}
+use Rattle.storage.proofs.DistributionsShareLaws.{can-hold}
 use Rattle.cert_checker.proofs.children.child_on.Goals as goal
 
 pub enlarge-requires : goal.enlarge-requires

@@ -3,7 +3,7 @@ use Rattle.std.proofs.Math.ListN.{replicate}
 use Rattle.std.specs.Prelude.{false}
 use Rattle.cert_text.specs.declared.certificates.MemberLine.{MemberLine}
 use Rattle.cert_checker.specs.ShownChannels.{IsWithin, member_at, no_member}
-use Rattle.cert_checker.proofs.Glue.{item-of}
+use Rattle.cert_checker.proofs.AnswersJudgeLines.{item-of}
 use Rattle.cert_checker.proofs.ChildMarks.{AreFirst, AreMarked, first-more, first-none, first-same}
 use Rattle.cert_checker.proofs.children.children_of.Goals as goal
 use Rattle.cert_checker.proofs.children.children_of.Goals.{then-is_within+in_ok-mark_children, else-is_within}

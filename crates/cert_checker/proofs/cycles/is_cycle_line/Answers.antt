@@ -1,4 +1,4 @@
-use Rattle.cert_checker.proofs.Along.{line-decides}
+use Rattle.cert_checker.proofs.LinksFixSteps.{line-decides}
 use Rattle.cert_checker.proofs.cycles.is_cycle_line.Goals as goal
 
 pub returns-in-Some : goal.returns-in-Some

@@ -1,7 +1,7 @@
 use Rattle.std.specs.Prelude.{slice_index_or}
 use Rattle.sd_base.specs.declared.role.Role.TheVariants.{Token}
 use Rattle.cert_text.specs.declared.certificates.LinkStep.{LinkStep}
-use Rattle.cert_checker.proofs.Along.{pushed-along, none-along}
+use Rattle.cert_checker.proofs.LinksFixSteps.{pushed-along, none-along}
 use Rattle.cert_checker.proofs.LinkMaps.{link-none, link-some}
 use Rattle.cert_checker.proofs.cycles.steps_along.Goals as goal
 

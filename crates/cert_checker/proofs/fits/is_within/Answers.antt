@@ -1,6 +1,6 @@
 use Rattle.std.proofs.Common.{List, Option, ℕ, subst}
 use Rattle.storage.specs.Distributions.{IsDistribution}
-use Rattle.storage.proofs.Enlarging.{distribution-length}
+use Rattle.storage.proofs.EnlargingAddsRoom.{distribution-length}
 use Rattle.cert_checker.proofs.fits.is_within.Goals as goal
 
 pub total_within-requires : goal.total_within-requires

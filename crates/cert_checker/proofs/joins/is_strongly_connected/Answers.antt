@@ -1,6 +1,6 @@
 use Rattle.std.proofs.Common.{◌∙◌}
-use Rattle.balance.proofs.ChannelEnds.{are-actors}
-use Rattle.cert_checker.proofs.Connected.{strongly, apart}
+use Rattle.balance.proofs.EndsAreActors.{are-actors}
+use Rattle.cert_checker.proofs.PathsJoinActors.{strongly, apart}
 use Rattle.cert_checker.proofs.joins.is_strongly_connected.Goals as goal
 
 pub strongly_connected-requires-clause-ends : goal.strongly_connected-requires-clause-ends

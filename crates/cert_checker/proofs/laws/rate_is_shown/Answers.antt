@@ -1,4 +1,4 @@
-use Rattle.cert_checker.proofs.Showing.{rate_shown}
+use Rattle.cert_checker.proofs.SchedulesShowRates.{rate_shown}
 use Rattle.cert_checker.proofs.laws.rate_is_shown.Goals as goal
 
 pub returns : goal.returns

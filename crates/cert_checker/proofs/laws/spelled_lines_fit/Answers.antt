@@ -1,4 +1,4 @@
-use Rattle.cert_checker.proofs.SpelledLines.{lines-fit}
+use Rattle.cert_checker.proofs.LinesFitTexts.{lines-fit}
 use Rattle.cert_checker.proofs.laws.spelled_lines_fit.Goals as goal
 
 pub returns : goal.returns

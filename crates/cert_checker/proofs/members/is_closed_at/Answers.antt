@@ -1,5 +1,5 @@
 use Rattle.std.proofs.Common.{refl, arith}
-use Rattle.cert_checker.proofs.Glue.{closed-all}
+use Rattle.cert_checker.proofs.AnswersJudgeLines.{closed-all}
 use Rattle.cert_checker.proofs.members.is_closed_at.Goals as goal
 
 pub returns : goal.returns

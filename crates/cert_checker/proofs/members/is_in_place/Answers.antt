@@ -4,7 +4,7 @@ use Rattle.storage.specs.StorageOrder.{IsBefore}
 use Rattle.cert_text.specs.declared.certificates.MemberLine.{MemberLine}
 use Rattle.cert_checker.specs.ShownChannels.{IsWithin, capacities_at, member_at, no_member}
 use Rattle.cert_checker.specs.inside.KnownSets.{IsChildOfFirst}
-use Rattle.cert_checker.proofs.Glue.{item-of, later-place}
+use Rattle.cert_checker.proofs.AnswersJudgeLines.{item-of, later-place}
 use Rattle.cert_checker.proofs.members.is_in_place.Goals as goal
 
 pub returns-then-is_before : goal.returns-then-is_before

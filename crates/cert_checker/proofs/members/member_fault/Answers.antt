@@ -2,7 +2,7 @@ use Rattle.std.proofs.Common.{◌≡◌, subst, sym}
 use Rattle.cert_text.specs.declared.certificates.MemberLine.{MemberLine}
 use Rattle.cert_checker.specs.ShownChannels.{IsWithin, member_at, no_member}
 use Rattle.cert_checker.proofs.FileNets.{bounded-few, within-can}
-use Rattle.cert_checker.proofs.Glue.{item-of, judge-member}
+use Rattle.cert_checker.proofs.AnswersJudgeLines.{item-of, judge-member}
 use Rattle.cert_checker.proofs.members.member_fault.Goals as goal
 
 pub new-requires-clause-can : goal.new-requires-clause-can

@@ -1,7 +1,7 @@
 use Rattle.std.proofs.Common.{◌<◌, length, refl, subst}
 use Rattle.cert_text.specs.MemberLines.{no_cycle}
 use Rattle.cert_text.specs.Orderly.{NamesOneOf}
-use Rattle.cert_checker.proofs.Glue.{item-of, judge-cycle}
+use Rattle.cert_checker.proofs.AnswersJudgeLines.{item-of, judge-cycle}
 use Rattle.cert_checker.proofs.members.shown_fault.Goals as goal
 
 pub returns-in-Cycle : goal.returns-in-Cycle

@@ -5,7 +5,7 @@ use Rattle.cert_text.specs.declared.certificates.PointLine.{PointLine}
 use Rattle.cert_checker.specs.ShownChannels.{member_at, no_member}
 use Rattle.cert_checker.specs.inside.BelowPoints.{IsMemberBelow}
 use Rattle.cert_checker.specs.inside.Bests.{AreBestRates}
-use Rattle.cert_checker.proofs.Glue.{item-of, member-below}
+use Rattle.cert_checker.proofs.AnswersJudgeLines.{item-of, member-below}
 use Rattle.cert_checker.proofs.points.are_below.Goals as goal
 
 pub returns-then-not-is_member_below : goal.returns-then-not-is_member_below

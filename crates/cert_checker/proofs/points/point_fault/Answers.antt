@@ -4,7 +4,7 @@ use Rattle.cert_text.specs.declared.certificates.PointLine.{PointLine}
 use Rattle.cert_checker.specs.ShownChannels.{IsWithin, member_at, no_member}
 use Rattle.cert_checker.specs.StorageCertificates.{no_point, point_at}
 use Rattle.cert_checker.proofs.FileNets.{bounded-few, within-can}
-use Rattle.cert_checker.proofs.Glue.{item-of, judge-point}
+use Rattle.cert_checker.proofs.AnswersJudgeLines.{item-of, judge-point}
 use Rattle.cert_checker.proofs.points.point_fault.Goals as goal
 
 pub new-requires-clause-can : goal.new-requires-clause-can

@@ -1,4 +1,4 @@
-use Rattle.cert_checker.proofs.Glue.{first-starts}
+use Rattle.cert_checker.proofs.AnswersJudgeLines.{first-starts}
 use Rattle.cert_checker.proofs.points.schedule_fault.Goals as goal
 
 pub returns-in-Some : goal.returns-in-Some

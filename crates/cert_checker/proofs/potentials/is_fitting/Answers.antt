@@ -2,7 +2,7 @@ use Rattle.std.proofs.Common.{ℤ, pos, ◌≤ℤ◌, true≢false, sym, subst, 
 use Rattle.std.proofs.lemmas.Int.{ints, to_z-of_z}
 use Rattle.automaton.specs.CriticalCycles.{IsStart}
 use Rattle.cert_checker.specs.inside.Listed.{AreKeptTo}
-use Rattle.cert_checker.proofs.Fitting.{fits, unkept}
+use Rattle.cert_checker.proofs.PotentialsFitEdges.{fits, unkept}
 use Rattle.cert_checker.proofs.potentials.is_fitting.Goals.{else-potential-lt0-via-then-potential-lt0+else-is_start, else-potential-lt0-via-else-potential-lt0}
 use Rattle.cert_checker.proofs.potentials.is_fitting.Goals as goal
 

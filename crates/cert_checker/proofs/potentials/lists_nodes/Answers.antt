@@ -1,4 +1,4 @@
-use Rattle.cert_checker.proofs.Listing.{end-decides}
+use Rattle.cert_checker.proofs.PotentialListsDecide.{end-decides}
 use Rattle.cert_checker.proofs.potentials.lists_nodes.Goals as goal
 
 pub returns : goal.returns

@@ -1,5 +1,5 @@
 use Rattle.std.proofs.Common.{true≢false, sym, ◌∙◌}
-use Rattle.cert_checker.proofs.Listing.{miss, take-next}
+use Rattle.cert_checker.proofs.PotentialListsDecide.{miss, take-next}
 use Rattle.cert_checker.proofs.potentials.next_after.Goals as goal
 
 pub returns-then-is_next : goal.returns-then-is_next

@@ -1,5 +1,5 @@
 use Rattle.std.proofs.Common.{◌*◌}
-use Rattle.cert_checker.proofs.Marking.{start-decides}
+use Rattle.cert_checker.proofs.MarksShowReached.{start-decides}
 use Rattle.cert_checker.proofs.reaching.is_start.Goals as goal
 
 pub returns-then-first-node : goal.returns-then-first-node

@@ -1,5 +1,5 @@
 use Rattle.std.proofs.Common.{length, sym, ◌∙◌}
-use Rattle.cert_checker.proofs.Marking.{ends-inside, fewer-left, mark-read, mark-reached}
+use Rattle.cert_checker.proofs.MarksShowReached.{ends-inside, fewer-left, mark-read, mark-reached}
 use Rattle.cert_checker.proofs.reaching.mark_end.Goals as goal
 
 pub returns-clause-reached : goal.returns-clause-reached

@@ -1,5 +1,5 @@
 use Rattle.std.proofs.Common.{true≢false}
-use Rattle.cert_checker.proofs.Marking.{all-reached, starts-sound}
+use Rattle.cert_checker.proofs.MarksShowReached.{all-reached, starts-sound}
 use Rattle.cert_checker.proofs.reaching.reached.Goals as goal
 
 pub loop-spreads-init : goal.loop-spreads-init

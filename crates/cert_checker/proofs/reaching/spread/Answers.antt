@@ -1,6 +1,6 @@
 use Rattle.std.proofs.Common.{◌<◌, ◌≤◌, true≢false, List, Bool, sym, subst, ◌∙◌, arith}
 use Rattle.cert_checker.specs.inside.Marks.{unmarked}
-use Rattle.cert_checker.proofs.Marking.{kept-more}
+use Rattle.cert_checker.proofs.MarksShowReached.{kept-more}
 use Rattle.cert_checker.proofs.reaching.spread.Goals as goal
 use Rattle.cert_checker.proofs.reaching.spread.Goals.{then-mark_end, else-mark_end}
 

@@ -1,6 +1,6 @@
 use Rattle.std.proofs.Common.{arith}
-use Rattle.sd_base.proofs.Lists.{many-more}
-use Rattle.cert_checker.proofs.Marking.{starts-more, starts-all}
+use Rattle.sd_base.proofs.ElementsKeepPlaces.{many-more}
+use Rattle.cert_checker.proofs.MarksShowReached.{starts-more, starts-all}
 use Rattle.cert_checker.proofs.reaching.starts.Goals as goal
 
 pub loop-node-preserved : goal.loop-node-preserved

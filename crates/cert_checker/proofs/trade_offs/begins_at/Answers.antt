@@ -1,7 +1,7 @@
 use Rattle.std.proofs.Common.{◌≡◌, ◌≤◌, length, sym, ◌∙◌, arith}
 use Rattle.std.specs.Prelude.{slice_index_or}
 use Rattle.cert_checker.specs.ShownChannels.{member_at, no_member}
-use Rattle.cert_checker.proofs.Glue.{begins-empty, begins-first, corner-length, empty-tests, first-tests, item-of, some-there}
+use Rattle.cert_checker.proofs.AnswersJudgeLines.{begins-empty, begins-first, corner-length, empty-tests, first-tests, item-of, some-there}
 use Rattle.cert_checker.proofs.trade_offs.begins_at.Goals as goal
 
 pub total_within-requires : goal.total_within-requires

@@ -3,7 +3,7 @@ use Rattle.sd_base.specs.Net.{Net}
 use Rattle.sd_base.specs.Lawful.{Lawful}
 use Rattle.storage.proofs.FileChannels.{file-plain}
 use Rattle.storage.proofs.FileConnections.{file-connected, file-few}
-use Rattle.cert_text.proofs.Uses.{names}
+use Rattle.cert_text.proofs.MembersNameInOrder.{names}
 use Rattle.std.specs.Prelude.{IfOk}
 use Rattle.sd_base.specs.FileNet.{net_of}
 use Rattle.cert_checker.specs.Verdicts.{IsToldVerdict, IsVerdict}

@@ -8,7 +8,7 @@ use Rattle.cert_checker.specs.ShownChannels.{member_at, no_member}
 use Rattle.cert_checker.specs.StorageLines.{member_line, member_size}
 use Rattle.cert_checker.specs.StorageCertificates.{IsMemberRight}
 use Rattle.cert_checker.specs.StorageFaults.{IsMemberFault}
-use Rattle.cert_checker.proofs.Glue.{item-of}
+use Rattle.cert_checker.proofs.AnswersJudgeLines.{item-of}
 use Rattle.cert_checker.proofs.StorageFirsts.{first-member, member-more}
 use Rattle.cert_checker.proofs.trade_offs.members_fault.Goals as goal
 

@@ -6,7 +6,7 @@ use Rattle.cert_text.specs.declared.certificates.PointLine.{PointLine}
 use Rattle.cert_checker.specs.StorageLines.{point_line, point_size}
 use Rattle.cert_checker.specs.StorageCertificates.{IsPointRight, no_point, point_at}
 use Rattle.cert_checker.specs.StorageFaults.{IsPointFault}
-use Rattle.cert_checker.proofs.Glue.{item-of}
+use Rattle.cert_checker.proofs.AnswersJudgeLines.{item-of}
 use Rattle.cert_checker.proofs.StorageFirsts.{first-point, point-more}
 use Rattle.cert_checker.proofs.trade_offs.points_fault.Goals as goal
 

@@ -3,7 +3,7 @@ use Rattle.cert_text.specs.declared.certificates.LinkCycle.{LinkCycle}
 use Rattle.cert_text.specs.declared.certificates.MemberLine.{MemberLine}
 use Rattle.cert_checker.specs.ShownChannels.{member_at, no_member}
 use Rattle.cert_checker.specs.StorageLines.{member_size}
-use Rattle.cert_checker.proofs.Glue.{item-of}
+use Rattle.cert_checker.proofs.AnswersJudgeLines.{item-of}
 use Rattle.cert_checker.proofs.StorageFirsts.{member-more}
 use Rattle.cert_checker.proofs.trade_offs.points_line.Goals as goal
 

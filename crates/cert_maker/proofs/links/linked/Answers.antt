@@ -3,7 +3,7 @@ use Rattle.std.proofs.Common.{List, All, map, ap, ◌∙◌}
 use Rattle.cert_maker.specs.Links.{link_step}
 use Rattle.cert_text.specs.declared.certificates.LinkStep.{LinkStep}
 use Rattle.cert_text.specs.Spellable.{HasText}
-use Rattle.cert_maker.proofs.Linked.{linked-text}
+use Rattle.cert_maker.proofs.LinkedCyclesHaveText.{linked-text}
 use Rattle.cert_maker.proofs.links.linked.Goals as goal
 
 pub returns-clause-text : goal.returns-clause-text

@@ -7,9 +7,9 @@ use Rattle.cert_text.specs.declared.certificates.LinkCycle.{LinkCycle}
 use Rattle.cert_text.specs.declared.certificates.MemberLine.{MemberLine}
 use Rattle.cert_text.specs.Orderly.{used_by}
 use Rattle.cert_text.specs.Spellable.{IsCycleText}
-use Rattle.cert_text.proofs.Uses.{used-end}
+use Rattle.cert_text.proofs.MembersNameInOrder.{used-end}
 use Rattle.cert_maker.specs.StorageCertificates.{IsMemberLine}
-use Rattle.cert_maker.proofs.Lines.{lines-push, text-push, used-none}
+use Rattle.cert_maker.proofs.LinesStayRight.{lines-push, text-push, used-none}
 use Rattle.cert_maker.proofs.members.list.Goals as goal
 
 pub loop-member-init : goal.loop-member-init

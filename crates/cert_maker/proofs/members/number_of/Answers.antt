@@ -1,11 +1,11 @@
 use Rattle.std.proofs.Common.{OnOk, Result, Ok, Err, All, map, subst, sym, arith}
 use Rattle.sd_base.specs.Net.{Net}
 use Rattle.storage.specs.BoundedNets.{bound}
-use Rattle.storage.proofs.Fits.{can-hold}
+use Rattle.storage.proofs.DistributionsShareLaws.{can-hold}
 use Rattle.cert_text.specs.Spellable.{HasText}
 use Rattle.cert_maker.specs.Links.{HasNoOrders, link_step}
-use Rattle.cert_maker.proofs.Linked.{linked-text}
-use Rattle.cert_maker.proofs.Orderless.{bound-orderless}
+use Rattle.cert_maker.proofs.LinkedCyclesHaveText.{linked-text}
+use Rattle.cert_maker.proofs.BoundNetsLackOrders.{bound-orderless}
 use Rattle.cert_maker.proofs.members.number_of.Goals as goal
 
 pub new-requires-clause-can : goal.new-requires-clause-can

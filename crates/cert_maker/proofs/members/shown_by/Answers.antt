@@ -1,4 +1,4 @@
-use Rattle.cert_maker.proofs.Lines.{entered-next}
+use Rattle.cert_maker.proofs.LinesStayRight.{entered-next}
 use Rattle.cert_maker.proofs.members.shown_by.Goals as goal
 
 pub returns-in_ok-number-in-Cycle-clause-next : goal.returns-in_ok-number-in-Cycle-clause-next

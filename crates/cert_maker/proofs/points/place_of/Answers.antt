@@ -3,7 +3,7 @@ use Rattle.std.specs.Prelude.{slice_index_or, Contains}
 use Rattle.std.proofs.lemmas.Option.{same_Some}
 use Rattle.explore.specs.declared.exploration.Member.{Member}
 use Rattle.explore.specs.Explorations.{capacities_of}
-use Rattle.cert_maker.proofs.Places.{capacities-at, one-later}
+use Rattle.cert_maker.proofs.MembersHavePlaces.{capacities-at, one-later}
 use Rattle.cert_maker.proofs.points.place_of.Goals as goal
 
 pub loop-place-preserved : goal.loop-place-preserved

@@ -8,7 +8,7 @@ use Rattle.pareto_front.specs.declared.point.Point.{Point}
 use Rattle.explore.specs.declared.exploration.Member.{Member}
 use Rattle.cert_text.specs.declared.certificates.PointLine.{PointLine}
 use Rattle.cert_maker.specs.StorageCertificates.{IsPointLine, schedules_of}
-use Rattle.cert_maker.proofs.Places.{here, more-count, more-left, more-lines, more-schedules}
+use Rattle.cert_maker.proofs.MembersHavePlaces.{here, more-count, more-left, more-lines, more-schedules}
 use Rattle.cert_maker.proofs.points.point_lines.Goals as goal
 
 pub loop-schedule-preserved : goal.loop-schedule-preserved

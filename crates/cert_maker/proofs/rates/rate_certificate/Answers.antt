@@ -2,7 +2,7 @@ use Rattle.std.proofs.Common.{refl, subst, sym, ap}
 use Rattle.std.proofs.Common.{ℕ, List, ◌∙◌}
 use Rattle.cert_text.specs.Spellable.{Rise}
 use Rattle.cert_maker.specs.RateCertificates.{buffers_from}
-use Rattle.cert_maker.proofs.Rising.{buffers-rise}
+use Rattle.cert_maker.proofs.BufferChannelsRise.{buffers-rise}
 use Rattle.cert_maker.proofs.rates.rate_certificate.Goals as goal
 
 pub returns-clause-is : goal.returns-clause-is

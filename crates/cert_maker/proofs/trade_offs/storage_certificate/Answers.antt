@@ -8,8 +8,8 @@ use Rattle.cert_text.specs.declared.certificates.MemberLine.{MemberLine}
 use Rattle.cert_text.specs.declared.certificates.PointLine.{PointLine}
 use Rattle.cert_text.specs.Spellable.{AreShown, AreStarts, IsCycleText}
 use Rattle.cert_maker.specs.inside.Lines.{ArePlaced}
-use Rattle.cert_maker.proofs.Explored.{explored-lines, explored-placed}
-use Rattle.cert_maker.proofs.Lines.{lines-shown, schedules-spelled}
+use Rattle.cert_maker.proofs.ExplorationsGiveLines.{explored-lines, explored-placed}
+use Rattle.cert_maker.proofs.LinesStayRight.{lines-shown, schedules-spelled}
 use Rattle.cert_maker.proofs.trade_offs.storage_certificate.Goals as goal
 
 pub point_lines-requires-clause-placed : goal.point_lines-requires-clause-placed

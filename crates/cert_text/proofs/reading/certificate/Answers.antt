@@ -1,4 +1,4 @@
-use Rattle.cert_text.proofs.Wholes.{read-all}
+use Rattle.cert_text.proofs.LinesMakeCertificates.{read-all}
 use Rattle.cert_text.proofs.reading.certificate.Goals as goal
 
 pub returns-clause-text : goal.returns-clause-text

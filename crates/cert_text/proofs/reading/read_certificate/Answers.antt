@@ -1,5 +1,5 @@
 use Rattle.std.proofs.Common.{inr}
-use Rattle.cert_text.proofs.Wholes.{read-ok, read-err}
+use Rattle.cert_text.proofs.LinesMakeCertificates.{read-ok, read-err}
 use Rattle.cert_text.proofs.reading.read_certificate.Goals as goal
 
 pub returns-in-Ok-clause-exact : goal.returns-in-Ok-clause-exact

@@ -1,6 +1,6 @@
 use Rattle.std.proofs.Common.{◌∙◌, sym, lit<, refl}
 use Rattle.cert_text.specs.LineForms.{version_due}
-use Rattle.cert_text.proofs.Texts.{version-small}
+use Rattle.cert_text.proofs.PiecesMakeTexts.{version-small}
 use Rattle.cert_text.proofs.reading.version_of.Goals as goal
 
 pub returns-then-is-clause-text : goal.returns-then-is-clause-text

@@ -2,7 +2,7 @@ use Rattle.std.proofs.Common.{◌≡◌, [], ◌∷◌, ◌++◌, sym, subst, ru
 use Rattle.covers.specs.Bounds.{AreEnough, StandsAt}
 use Rattle.covers.specs.declared.bound.Bound.{Bound}
 use Rattle.covers.specs.inside.Leaving.{Dominates}
-use Rattle.covers.proofs.Dominated.{enough-added, enough-needless}
+use Rattle.covers.proofs.FewBoundsSuffice.{enough-added, enough-needless}
 use Rattle.covers.proofs.acting.acting_with.Goals as goal
 
 pub returns-then-is_needless : goal.returns-then-is_needless

@@ -2,7 +2,7 @@ use Rattle.std.proofs.Common.{◌+◌, ◌<◌, ℕ, List, length, take, sym, ap
 use Rattle.std.specs.Prelude.{slice_index}
 use Rattle.std.proofs.lemmas.List.{take_all}
 use Rattle.covers.specs.inside.Leaving.{AreLeft, Dominates}
-use Rattle.covers.proofs.Dominated.{dominates-at, left-kept, left-out}
+use Rattle.covers.proofs.FewBoundsSuffice.{dominates-at, left-kept, left-out}
 use Rattle.covers.proofs.acting.left_beside.Goals as goal
 use Rattle.covers.proofs.acting.left_beside.Goals.{then-not-dominates+in_ok-push, else-not-dominates}
 

@@ -2,8 +2,8 @@ use Rattle.std.proofs.Common.{◌≡◌, inl, inr, sym, ◌∙◌, rules, arith}
 use Rattle.std.specs.Prelude.{◌⊎◌, false, slice_index_or}
 use Rattle.covers.specs.declared.bound.Cap.{Cap}
 use Rattle.covers.specs.inside.Ways.{StaysWithin}
-use Rattle.covers.proofs.Mixing.{apart-more}
-use Rattle.covers.proofs.Places.{all-done}
+use Rattle.covers.proofs.ApartBoundsAddUp.{apart-more}
+use Rattle.covers.proofs.ChangesKeepOrder.{all-done}
 use Rattle.covers.proofs.least.is_apart.Goals as goal
 use Rattle.covers.proofs.least.is_apart.Goals.{else-is_taken-via-then-is_taken+else-has_way, else-is_taken-via-else-is_taken}
 

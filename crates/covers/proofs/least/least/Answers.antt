@@ -6,8 +6,8 @@ use Rattle.covers.specs.Bounds.{IsInForce}
 use Rattle.covers.specs.inside.Surveys.{IsTollAt}
 use Rattle.covers.specs.inside.Taken.{AreApart}
 use Rattle.covers.specs.inside.Ways.{IsToll}
-use Rattle.covers.proofs.Mixing.{IsPaid, paid-all, paid-first, paid-more}
-use Rattle.covers.proofs.Surveying.{covered-here}
+use Rattle.covers.proofs.ApartBoundsAddUp.{IsPaid, paid-all, paid-first, paid-more}
+use Rattle.covers.proofs.BoundsNarrowNodes.{covered-here}
 use Rattle.covers.proofs.least.least.Goals as goal
 use Rattle.covers.proofs.least.least.Goals.{then-is_apart, else-is_apart}
 

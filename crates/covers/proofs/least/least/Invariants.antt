@@ -1,5 +1,5 @@
 use Rattle.std.proofs.Common.{◌≡◌, length}
-use Rattle.covers.proofs.Mixing.{IsPaid}
+use Rattle.covers.proofs.ApartBoundsAddUp.{IsPaid}
 use Rattle.covers.proofs.least.least.Given as goal
 
 abbrev pub invariant-loop-toll : goal.invariant-loop-toll

@@ -3,8 +3,8 @@ use Rattle.std.specs.Prelude.{◌⊎◌, false, slice_index_or}
 use Rattle.covers.specs.declared.bound.Cap.{Cap}
 use Rattle.covers.specs.inside.Taken.{AreTaken}
 use Rattle.covers.specs.inside.Ways.{StaysWithin}
-use Rattle.covers.proofs.Mixing.{taken-more, taken-stays}
-use Rattle.covers.proofs.Places.{all-done}
+use Rattle.covers.proofs.ApartBoundsAddUp.{taken-more, taken-stays}
+use Rattle.covers.proofs.ChangesKeepOrder.{all-done}
 use Rattle.covers.proofs.least.take.Goals as goal
 use Rattle.covers.proofs.least.take.Goals.{then-has_way, else-has_way}
 

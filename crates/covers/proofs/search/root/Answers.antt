@@ -1,7 +1,7 @@
 use Rattle.std.proofs.Common.{◌≡◌, refl, ap, ◌∙◌, take, arith}
 use Rattle.std.proofs.lemmas.List.{take_all}
 use Rattle.covers.specs.Lattices.{corner_of}
-use Rattle.covers.proofs.Rooting.{rooted, tops_of}
+use Rattle.covers.proofs.RootHoldsLattice.{rooted, tops_of}
 use Rattle.covers.proofs.search.root.Goals as goal
 
 pub returns : goal.returns

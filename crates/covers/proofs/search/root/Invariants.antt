@@ -1,6 +1,6 @@
 use Rattle.std.proofs.Common.{◌≡◌, take}
 use Rattle.covers.specs.Lattices.{corner_of}
-use Rattle.covers.proofs.Rooting.{tops_of}
+use Rattle.covers.proofs.RootHoldsLattice.{tops_of}
 use Rattle.covers.proofs.search.root.Given as goal
 
 abbrev pub invariant-loop-axis : goal.invariant-loop-axis

@@ -4,9 +4,9 @@ use Rattle.covers.specs.declared.node.Node.{Node}
 use Rattle.covers.specs.Bounds.{IsWithin}
 use Rattle.covers.specs.Nodes.{StandsFor}
 use Rattle.covers.specs.inside.Splits.{StandsAmong}
-use Rattle.covers.proofs.Places.{all-done}
-use Rattle.covers.proofs.Rooms.{some-room}
-use Rattle.covers.proofs.Splitting.{HasGone, IsSplitSoFar, split-goes, split-stays}
+use Rattle.covers.proofs.ChangesKeepOrder.{all-done}
+use Rattle.covers.proofs.RoomsShrink.{some-room}
+use Rattle.covers.proofs.CapsSplitNodes.{HasGone, IsSplitSoFar, split-goes, split-stays}
 use Rattle.covers.proofs.split.split.Goals as goal
 use Rattle.covers.proofs.split.split.Goals.{in-Some+in_ok-child+in_ok-push, in_default}
 

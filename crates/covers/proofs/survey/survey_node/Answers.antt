@@ -2,7 +2,7 @@ use Rattle.std.proofs.Common.{◌<◌, rules, ◌+◌, List, length, sym, ap, �
 use Rattle.std.specs.Prelude.{slice_index}
 use Rattle.covers.specs.declared.survey.Toll.{Toll}
 use Rattle.covers.specs.inside.Surveys.{AreTolls, Holds}
-use Rattle.covers.proofs.Surveying.{closed-here, narrow-here, tolls-all, tolls-more, tolls-past}
+use Rattle.covers.proofs.BoundsNarrowNodes.{closed-here, narrow-here, tolls-all, tolls-more, tolls-past}
 use Rattle.covers.proofs.survey.survey_node.Goals as goal
 use Rattle.covers.proofs.survey.survey_node.Goals.{then-holds+in-Several+in_ok-push-in-Several, else-holds}
 

@@ -1,6 +1,6 @@
 use Rattle.std.proofs.Common.{◌≡◌, ◌-◌, ◌*◌, ◌<◌, ℕ, None, List, refl, ap, ◌∙◌, subst, rules, arith}
 use Rattle.std.specs.Prelude.{slice_index}
-use Rattle.covers.proofs.Going.{next-taken, on-axis-at, stays-axis, stays-limit, toll-paid}
+use Rattle.covers.proofs.WaysLeadOut.{next-taken, on-axis-at, stays-axis, stays-limit, toll-paid}
 use Rattle.covers.proofs.ways.way_out.Goals as goal
 
 pub returns-in_default-next : goal.returns-in_default-next

@@ -3,7 +3,7 @@ use Rattle.covers.specs.declared.ways.Ways.{Ways}
 use Rattle.std.specs.Prelude.{All}
 use Rattle.covers.specs.Bounds.{IsWithin}
 use Rattle.covers.specs.inside.Ways.{AreWays}
-use Rattle.covers.proofs.Going.{more-stays, more-way}
+use Rattle.covers.proofs.WaysLeadOut.{more-stays, more-way}
 use Rattle.covers.proofs.ways.ways_out.Goals as goal
 use Rattle.covers.proofs.ways.ways_out.Goals.{in-Some, in_default}
 

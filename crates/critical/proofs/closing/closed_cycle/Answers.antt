@@ -1,7 +1,7 @@
 use Rattle.std.proofs.Common.{ℕ, ◌-◌, ◌*◌, ◌≤◌, length, arith, mul-le-mul_right}
 use Rattle.critical.specs.inside.Trails.{met_at, lowered_firing}
-use Rattle.critical.proofs.Closed.{closed-critical, times-in_order, passes-in_order}
-use Rattle.critical.proofs.Unspacing.{steps-along}
+use Rattle.critical.proofs.ClosedWaysAreCritical.{closed-critical, times-in_order, passes-in_order}
+use Rattle.critical.proofs.CyclesAvoidSpaces.{steps-along}
 use Rattle.critical.proofs.closing.closed_cycle.Goals as goal
 
 pub overflow_sub-result : goal.overflow_sub-result

@@ -1,7 +1,7 @@
 use Rattle.std.proofs.Common.{◌-◌, length, refl, arith}
 use Rattle.critical.specs.inside.Trails.{met_at}
-use Rattle.critical.proofs.Turning.{some-round, passes-rise}
-use Rattle.critical.proofs.Lowering.{least-first, least-next, least-all}
+use Rattle.critical.proofs.WaysTurnToCycles.{some-round, passes-rise}
+use Rattle.critical.proofs.FiringsCanBeLowered.{least-first, least-next, least-all}
 use Rattle.critical.proofs.closing.least_rounds.Goals as goal
 
 pub nonzero_div-least : goal.nonzero_div-least

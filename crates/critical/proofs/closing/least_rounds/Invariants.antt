@@ -1,6 +1,6 @@
 use Rattle.std.proofs.Common.{◌-◌, length}
 use Rattle.critical.specs.inside.Trails.{met_at}
-use Rattle.critical.proofs.Lowering.{LeastBelow}
+use Rattle.critical.proofs.FiringsCanBeLowered.{LeastBelow}
 use Rattle.critical.proofs.closing.least_rounds.Given as goal
 
 abbrev pub invariant-loop-i : goal.invariant-loop-i

@@ -1,5 +1,5 @@
 use Rattle.std.proofs.Common.{arith}
-use Rattle.critical.proofs.Turning.{raised-small, number-small}
+use Rattle.critical.proofs.WaysTurnToCycles.{raised-small, number-small}
 use Rattle.critical.proofs.closing.raised.Goals as goal
 
 pub overflow_mul-result-2 : goal.overflow_mul-result-2

@@ -1,7 +1,7 @@
 use Rattle.std.proofs.Common.{ℕ, ◌+◌, ◌-◌, length, arith}
 use Rattle.critical.specs.inside.Trails.{met_at, lowered_firing, steps_of}
-use Rattle.critical.proofs.Turning.{passes-rise}
-use Rattle.critical.proofs.Lowering.{steps-next}
+use Rattle.critical.proofs.WaysTurnToCycles.{passes-rise}
+use Rattle.critical.proofs.FiringsCanBeLowered.{steps-next}
 use Rattle.critical.proofs.closing.steps_forward.Goals as goal
 
 pub lowered-requires-clause-second : goal.lowered-requires-clause-second

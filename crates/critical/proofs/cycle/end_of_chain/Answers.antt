@@ -2,7 +2,7 @@ use Rattle.std.proofs.Common.{subst, sym, arith}
 use Rattle.critical.specs.declared.cycle.FiringNo.{FiringNo}
 use Rattle.critical.specs.Cycles.{IsChain}
 use Rattle.critical.specs.Stretches.{steps_in}
-use Rattle.critical.proofs.Stretches.{chain-stops, goes-on_more}
+use Rattle.critical.proofs.StretchesGiveSteps.{chain-stops, goes-on_more}
 use Rattle.critical.proofs.cycle.end_of_chain.Goals as goal
 
 pub returns-in-None : goal.returns-in-None

@@ -1,7 +1,7 @@
 use Rattle.std.proofs.Common.{take}
 use Rattle.std.specs.Prelude.{flat_map}
 use Rattle.critical.specs.Stretches.{steps_in}
-use Rattle.critical.proofs.Stretches.{GoesOn}
+use Rattle.critical.proofs.StretchesGiveSteps.{GoesOn}
 use Rattle.critical.proofs.cycle.end_of_chain.Given as goal
 
 abbrev pub invariant-loop-stretch : goal.invariant-loop-stretch

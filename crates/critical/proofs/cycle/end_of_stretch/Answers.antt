@@ -1,8 +1,8 @@
 use Rattle.std.proofs.Common.{◌+◌, refl, arith}
 use Rattle.std.proofs.lemmas.Bool.{iff_false}
 use Rattle.critical.specs.Stretches.{steps_in}
-use Rattle.critical.proofs.Chains.{follows-next, follows-stop, follows-all}
-use Rattle.critical.proofs.Stretches.{stretch-split, stretch-end}
+use Rattle.critical.proofs.ChainsSplitAndJoin.{follows-next, follows-stop, follows-all}
+use Rattle.critical.proofs.StretchesGiveSteps.{stretch-split, stretch-end}
 use Rattle.critical.proofs.cycle.end_of_stretch.Goals as goal
 
 pub returns-then-not-is_step : goal.returns-then-not-is_step

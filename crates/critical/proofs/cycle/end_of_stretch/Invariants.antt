@@ -1,6 +1,6 @@
 use Rattle.std.proofs.Common.{◌≡◌, ◌+◌, ℕ}
 use Rattle.critical.specs.Stretches.{steps_in}
-use Rattle.critical.proofs.Chains.{Follows}
+use Rattle.critical.proofs.ChainsSplitAndJoin.{Follows}
 use Rattle.critical.proofs.cycle.end_of_stretch.Given as goal
 
 abbrev pub invariant-loop-behind : goal.invariant-loop-behind

@@ -1,4 +1,4 @@
-use Rattle.critical.proofs.Shortness.{short-loop}
+use Rattle.critical.proofs.LoopsAreShort.{short-loop}
 use Rattle.critical.proofs.find.critical_cycle.Goals as goal
 
 pub walk_back-requires : goal.walk_back-requires

@@ -1,5 +1,5 @@
 use Rattle.std.proofs.Common.{arith}
-use Rattle.critical.proofs.Marking.{class-below}
+use Rattle.critical.proofs.PlacesTellFirings.{class-below}
 use Rattle.critical.proofs.marks.class_of.Goals as goal
 
 pub overflow_add-result : goal.overflow_add-result

@@ -1,5 +1,5 @@
 use Rattle.std.proofs.Common.{◌<◌, List, ℕ, length, subst, arith}
-use Rattle.critical.proofs.Marking.{row-many, sum-next}
+use Rattle.critical.proofs.PlacesTellFirings.{row-many, sum-next}
 use Rattle.critical.proofs.marks.offsets.Goals as goal
 
 pub overflow_add-sum : goal.overflow_add-sum

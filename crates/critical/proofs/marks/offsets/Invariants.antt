@@ -1,6 +1,6 @@
 use Rattle.std.proofs.Common.{◌≡◌}
 use Rattle.critical.specs.inside.Trails.{offset_of}
-use Rattle.critical.proofs.Marking.{OffsetsBelow}
+use Rattle.critical.proofs.PlacesTellFirings.{OffsetsBelow}
 use Rattle.critical.proofs.marks.offsets.Given as goal
 
 abbrev pub invariant-loop-row : goal.invariant-loop-row

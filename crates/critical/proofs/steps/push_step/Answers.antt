@@ -4,7 +4,7 @@ use Rattle.std.proofs.lemmas.List.FromFn.{map-range_with_len_more}
 use Rattle.critical.specs.declared.cycle.CycleStep.{CycleStep}
 use Rattle.critical.specs.declared.stretch.Stretch.{Stretch}
 use Rattle.critical.specs.Stretches.{step_at, steps_in}
-use Rattle.critical.proofs.Stretches.{last-longer}
+use Rattle.critical.proofs.StretchesGiveSteps.{last-longer}
 use Rattle.critical.proofs.steps.push_step.Goals as goal
 
 pub returns-then-is_next-clause-ok : goal.returns-then-is_next-clause-ok

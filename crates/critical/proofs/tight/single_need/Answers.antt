@@ -1,6 +1,6 @@
 use Rattle.std.proofs.Common.{◌+◌, ◌*◌}
 use Rattle.sd_base.specs.Net.{channel_at}
-use Rattle.sd_base.proofs.Lists.{single-some}
+use Rattle.sd_base.proofs.ElementsKeepPlaces.{single-some}
 use Rattle.firing.proofs.PortSums.{need-none}
 use Rattle.critical.proofs.TightNeeds.{single-need, single-taken}
 use Rattle.critical.proofs.tight.single_need.Goals as goal

@@ -1,9 +1,9 @@
 use Rattle.std.proofs.Common.{List, Option, ℕ, [], subst, sym}
 use Rattle.critical.specs.inside.Trails.{AreOffsets}
 use Rattle.critical.specs.inside.Searches.{IsSearch}
-use Rattle.critical.proofs.Shortness.{short-loop}
-use Rattle.critical.proofs.Ranks.{none-unspaced}
-use Rattle.critical.proofs.Searching.{search-none}
+use Rattle.critical.proofs.LoopsAreShort.{short-loop}
+use Rattle.critical.proofs.RanksRuleOutCycles.{none-unspaced}
+use Rattle.critical.proofs.SearchGoesOn.{search-none}
 use Rattle.critical.proofs.unspaced.cycle_without_spaces.Goals as goal
 
 pub offsets-requires : goal.offsets-requires

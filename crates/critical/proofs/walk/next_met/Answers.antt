@@ -1,5 +1,5 @@
 use Rattle.std.proofs.Common.{arith, mul-le-mul_left}
-use Rattle.critical.proofs.Walking.{need-near}
+use Rattle.critical.proofs.MarkedFiringsRecur.{need-near}
 use Rattle.critical.proofs.walk.next_met.Goals as goal
 
 pub overflow_add-result : goal.overflow_add-result

@@ -1,7 +1,7 @@
 use Rattle.std.proofs.Common.{◌≡◌, [], length, sym, ◌∙◌, ap, arith}
 use Rattle.std.proofs.lemmas.List.{take_at, length_push}
 use Rattle.critical.specs.inside.Trails.{first_firing}
-use Rattle.critical.proofs.Walking.{met_then, marks-none, marks-next, way-first, way-next, first-kept, needs-next, here-second, here-near, here-soon, all-met, first-again, needs-again, comes-again}
+use Rattle.critical.proofs.MarkedFiringsRecur.{met_then, marks-none, marks-next, way-first, way-next, first-kept, needs-next, here-second, here-near, here-soon, all-met, first-again, needs-again, comes-again}
 use Rattle.critical.proofs.walk.walk_back.Goals as goal
 
 pub loop-place-init : goal.loop-place-init

@@ -1,6 +1,6 @@
 use Rattle.std.proofs.Common.{◌≡◌, ℕ, suc, ◌<◌, length}
 use Rattle.critical.specs.inside.Trails.{IsSlackBefore, IsTrail, first_firing}
-use Rattle.critical.proofs.Walking.{met_then, AreMarks}
+use Rattle.critical.proofs.MarkedFiringsRecur.{met_then, AreMarks}
 use Rattle.critical.proofs.walk.walk_back.Given as goal
 
 abbrev pub invariant-loop-place : goal.invariant-loop-place

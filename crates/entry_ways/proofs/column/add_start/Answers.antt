@@ -6,7 +6,7 @@ use Rattle.sd_base.specs.Net.{Net}
 use Rattle.sd_base.specs.Untimed.{counts_after, none_fired}
 use Rattle.entry_ways.specs.inside.Columns.{AreUpTo, HasStart, IsColumn, IsFedBy, IsLinkInto, IsLongest}
 use Rattle.entry_ways.proofs.ColumnSteps.{column-more, link-small, next-fed, round-small, row-long, starts-small}
-use Rattle.token_matrix.proofs.Orders.{fires_at, after_more}
+use Rattle.token_matrix.proofs.OrdersFireInTurn.{fires_at, after_more}
 use Rattle.entry_ways.proofs.column.add_start.Goals as goal
 
 pub index-requires : goal.index-requires

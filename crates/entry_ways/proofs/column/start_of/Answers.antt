@@ -1,7 +1,7 @@
 use Rattle.std.proofs.Common.{ℕ, refl, arith}
 use Rattle.std.specs.Prelude.{slice_index}
 use Rattle.sd_base.specs.Net.{Net}
-use Rattle.entry_ways.proofs.Arrivals.{links-none, links-more, links-all}
+use Rattle.entry_ways.proofs.LatestEndsGiveLinks.{links-none, links-more, links-all}
 use Rattle.entry_ways.proofs.column.start_of.Goals as goal
 
 pub loop-channel-init : goal.loop-channel-init

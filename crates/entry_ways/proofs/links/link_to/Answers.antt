@@ -2,7 +2,7 @@ use Rattle.std.proofs.Common.{◌≡◌, ◌≤◌, ◌<◌, ℕ, List, ⊎_elim
 use Rattle.std.specs.Prelude.{slice_index}
 use Rattle.std.proofs.lemmas.Bool.{cases_lt}
 use Rattle.firing.specs.declared.sums.Port.TheVariants.{Taken}
-use Rattle.firing.proofs.Listings.{place_of}
+use Rattle.firing.proofs.PlacesAreListed.{place_of}
 use Rattle.sd_base.specs.Net.{Net, channel_at}
 use Rattle.entry_ways.specs.inside.Columns.{IsLink}
 use Rattle.entry_ways.proofs.WaySteps.{exact-link, no-link, round-fed}

@@ -4,7 +4,7 @@ use Rattle.sd_base.specs.Net.{Channel, Net, channel_at}
 use Rattle.token_matrix.specs.Ways.{IsChain}
 use Rattle.entry_ways.specs.inside.Columns.{start_in}
 use Rattle.entry_ways.specs.inside.Traces.{AreMarked}
-use Rattle.entry_ways.proofs.Marks.{more-marked, snoc-on}
+use Rattle.entry_ways.proofs.MarksAddUp.{more-marked, snoc-on}
 use Rattle.entry_ways.proofs.WaySteps.{chain-from, chain-on, in-round}
 use Rattle.entry_ways.proofs.links.mark_chain.Goals as goal
 
@@ -30,7 +30,7 @@ chain-preserved g c =
     let link = c.in-Goes.ensures in
     let i : ℕ = link.0 in
     let on : Channel = channel_at net i in
-    let k : ℕ = c.in-Goes.putter in
+    let k : ℕ = c.in-Goes.producer in
     let d : ℕ = c.in-Goes.earlier in
     let taken = link.3.3 in
     let inv = c.chain.invariant in

@@ -6,7 +6,7 @@ use Rattle.token_matrix.specs.Stamps.{first_of}
 use Rattle.entry_ways.specs.declared.marking.EntryPlace.{EntryPlace}
 use Rattle.entry_ways.specs.WayMarks.{AreWayMarks}
 use Rattle.entry_ways.proofs.GraphChains.{apart, enough, few-shared, longest-by, traceable, way-by}
-use Rattle.entry_ways.proofs.Marks.{entry-marked}
+use Rattle.entry_ways.proofs.MarksAddUp.{entry-marked}
 use Rattle.entry_ways.proofs.marking.mark_ways.Goals as goal
 
 pub firsts_of-requires : goal.firsts_of-requires

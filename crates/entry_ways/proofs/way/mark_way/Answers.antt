@@ -4,7 +4,7 @@ use Rattle.sd_base.specs.Net.{Channel, Net, channel_at}
 use Rattle.token_matrix.specs.Stamps.{IsPutBy, left_token}
 use Rattle.token_matrix.specs.Ways.{IsChain}
 use Rattle.entry_ways.specs.inside.Columns.{start_in}
-use Rattle.entry_ways.proofs.Marks.{none-marked}
+use Rattle.entry_ways.proofs.MarksAddUp.{none-marked}
 use Rattle.entry_ways.proofs.LastSteps.{last-early, last-started, put-way, stays-way, way-on}
 use Rattle.entry_ways.proofs.way.mark_way.Goals as goal
 
@@ -28,9 +28,9 @@ start_at-requires-clause-firing g c =
     let p : ℕ = c.args.chains.now.token in
     let i : ℕ = c.channel_of-channel.result in
     let on : Channel = channel_at net i in
-    let n : ℕ = c.putter_of-putter.result in
+    let n : ℕ = c.producer_of-producer.result in
     let puts : IsPutBy on (left_token net i (c.args.left - number i)) n = subst (λ (m : ℕ). IsPutBy on m n) {y = left_token net i (c.args.left - number i)} c.left_token-last.ensures
-    c.putter_of-putter.ensures.put in
+    c.producer_of-producer.ensures.put in
     let early : n < slice_index net.round on.source = last-early net number p c.args.left i c.requires.apart c.channel_of-channel.ensures c.know_laws.ensures n puts c.args.rows.now
     c.requires.column in
     let whole : length (slice_index_or c.args.rows.now on.source []) ≡ slice_index net.round on.source =
@@ -44,10 +44,10 @@ unreachable-requires g c =
     let p : ℕ = c.args.chains.now.token in
     let i : ℕ = c.channel_of-channel.result in
     let on : Channel = channel_at net i in
-    let n : ℕ = c.putter_of-putter.result in
+    let n : ℕ = c.producer_of-producer.result in
     let way = c.requires.way in
     let puts : IsPutBy on (left_token net i (c.args.left - number i)) n = subst (λ (m : ℕ). IsPutBy on m n) {y = left_token net i (c.args.left - number i)} c.left_token-last.ensures
-    c.putter_of-putter.ensures.put in
+    c.producer_of-producer.ensures.put in
     let start = last-started net number p c.args.left i c.requires.apart c.channel_of-channel.ensures c.know_laws.ensures n puts c.args.rows.now c.requires.column way.0 way.1 way.2 in
     let there : start_in c.args.rows.now c.source-actor.result n ≡ Some start.0 = ap (λ (a : ℕ). start_in c.args.rows.now a n) c.source-actor.ensures ∙ start.1 in
     let none : ◌≡◌ {A = Option ℕ} None (Some start.0) = sym c.in-None.is ∙ (c.start_at.ensures ∙ there) in
@@ -60,11 +60,11 @@ returns g c =
     let p : ℕ = c.args.chains.now.token in
     let i : ℕ = c.channel_of-channel.result in
     let on : Channel = channel_at net i in
-    let n : ℕ = c.putter_of-putter.result in
+    let n : ℕ = c.producer_of-producer.result in
     let start : ℕ = c.in-Some.start in
     let marked = c.mark_chain.ensures in
     let puts : IsPutBy on (left_token net i (c.args.left - number i)) n = subst (λ (m : ℕ). IsPutBy on m n) {y = left_token net i (c.args.left - number i)} c.left_token-last.ensures
-    c.putter_of-putter.ensures.put in
+    c.producer_of-producer.ensures.put in
     let at : start_in c.args.rows.now on.source n ≡ Some start = ap (λ (a : ℕ). start_in c.args.rows.now a n) (sym c.source-actor.ensures) ∙ (sym c.start_at.ensures ∙ c.in-Some.is) in
     let chain : IsChain net number p on.source n start marked.0 = subst (λ (a : ℕ). IsChain net number p a n start marked.0) c.source-actor.ensures marked.1 in
     (marked.0, put-way net number p c.args.left i c.requires.apart c.channel_of-channel.ensures c.know_laws.ensures n puts c.args.rows.now c.requires.column start marked.0 at chain, marked.2)

@@ -1,4 +1,4 @@
-use Rattle.sd_base.proofs.Lists.{flat_next}
+use Rattle.sd_base.proofs.ElementsKeepPlaces.{flat_next}
 use Rattle.escapes.specs.EscapedNames.{escaped_byte}
 use Rattle.escapes.proofs.names.put_escaped.Goals as goal
 

@@ -8,7 +8,7 @@ use Rattle.evaluations.specs.declared.evaluating.Answered.{Answered}
 use Rattle.evaluations.specs.declared.rated.Rated.{Rated}
 use Rattle.evaluations.specs.Evaluating.{IsEvaluation, least_loops, most_loops, sum_of}
 use Rattle.evaluations.specs.inside.Tasks.{IsAnswered, IsDone}
-use Rattle.evaluations.proofs.Tasks.{answer-is, counts-least, counts-most, sum-more}
+use Rattle.evaluations.proofs.FreshTasksFinish.{answer-is, counts-least, counts-most, sum-more}
 use Rattle.evaluations.proofs.evaluating.drain.Goals as goal
 
 pub loop-task-preserved : goal.loop-task-preserved

@@ -3,8 +3,8 @@ use Rattle.std.proofs.lemmas.List.{take_at}
 use Rattle.selftimed.specs.declared.engine.Stage.TheVariants.{Fresh, Running}
 use Rattle.selftimed.specs.Moves.{ComesNext}
 use Rattle.loops.specs.StartRows.{AreStarts}
-use Rattle.event_loops.proofs.Going.{first-few, running-few, running-within}
-use Rattle.event_loops.proofs.Collected.{has-before, has-fewer, has-next, starts-are}
+use Rattle.event_loops.proofs.LiveEnginesGoOn.{first-few, running-few, running-within}
+use Rattle.event_loops.proofs.StartsAddUp.{has-before, has-fewer, has-next, starts-are}
 use Rattle.event_loops.proofs.beginning.starts_until.Goals as goal
 
 pub next_event-requires-clause-inputs : goal.next_event-requires-clause-inputs

@@ -1,6 +1,6 @@
 use Rattle.std.proofs.Common.{◌+◌, ◌≤◌, arith}
 use Rattle.sd_base.proofs.LoopRates.{table-rate}
-use Rattle.loops.proofs.Ranks.{rank-rises, starts-rise}
+use Rattle.loops.proofs.RanksRise.{rank-rises, starts-rise}
 use Rattle.event_loops.proofs.by_events.traced_loop.Goals as goal
 
 pub returns : goal.returns

@@ -1,5 +1,5 @@
 use Rattle.std.proofs.Common.{arith}
-use Rattle.event_loops.proofs.Collected.{adds-all}
+use Rattle.event_loops.proofs.StartsAddUp.{adds-all}
 use Rattle.event_loops.proofs.collect.add_starts.Goals as goal
 
 pub returns : goal.returns

@@ -1,4 +1,4 @@
-use Rattle.event_loops.proofs.Collected.{AddsSoFar}
+use Rattle.event_loops.proofs.StartsAddUp.{AddsSoFar}
 use Rattle.event_loops.proofs.collect.add_starts.Given as goal
 
 abbrev pub invariant-loop-actor : goal.invariant-loop-actor

@@ -6,8 +6,8 @@ use Rattle.sd_base.specs.SelfTimed.{earliest, shape_at}
 use Rattle.loops.specs.Settling.{IsFirstSettled}
 use Rattle.event_loops.specs.inside.Entering.{IsFirstTwice}
 use Rattle.loops.proofs.RowsSettle.{next-settled, next-first}
-use Rattle.loops.proofs.StartRows.{starts-ascend, ends-rise, count-by, rows-settle, same-over}
-use Rattle.event_loops.proofs.Entered.{reach-from, entry-loops}
+use Rattle.loops.proofs.RowsTellStarts.{starts-ascend, ends-rise, count-by, rows-settle, same-over}
+use Rattle.event_loops.proofs.EntryBeginsLoop.{reach-from, entry-loops}
 use Rattle.event_loops.proofs.entry.entry_of.Goals as goal
 use Rattle.event_loops.proofs.entry.entry_of.Goals.{then-from-settled, else-from-settled}
 

@@ -1,9 +1,9 @@
 use Rattle.std.proofs.Common.{◌∙◌, ◌≡◌, refl, sym, arith}
 use Rattle.selftimed.specs.declared.engine.Stage.TheVariants.{Fresh, Running}
-use Rattle.event_loops.proofs.Visiting.{next-visit, ends-many, ends-spent}
-use Rattle.event_loops.proofs.Searched.{many-first}
-use Rattle.event_loops.proofs.Repeated.{none-apart, differ-apart, apart-more, repeat-here, follows-later, follows-first, lead-later}
-use Rattle.event_loops.proofs.Collected.{has-rows, has-before, has-fewer, has-next}
+use Rattle.event_loops.proofs.VisitsCountEvents.{next-visit, ends-many, ends-spent}
+use Rattle.event_loops.proofs.KeptShapesFindPairs.{many-first}
+use Rattle.event_loops.proofs.FirstRepeatFound.{none-apart, differ-apart, apart-more, repeat-here, follows-later, follows-first, lead-later}
+use Rattle.event_loops.proofs.StartsAddUp.{has-rows, has-before, has-fewer, has-next}
 use Rattle.event_loops.proofs.repeat.first_repeat.Goals as goal
 
 pub go_on-requires-clause-inputs : goal.go_on-requires-clause-inputs

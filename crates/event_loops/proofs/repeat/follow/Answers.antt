@@ -1,6 +1,6 @@
 use Rattle.std.proofs.Common.{◌<◌, ◌-◌, ◌∙◌, arith}
-use Rattle.event_loops.proofs.Going.{running-few}
-use Rattle.event_loops.proofs.Repeated.{follows-next}
+use Rattle.event_loops.proofs.LiveEnginesGoOn.{running-few}
+use Rattle.event_loops.proofs.FirstRepeatFound.{follows-next}
 use Rattle.event_loops.proofs.repeat.follow.Goals as goal
 
 pub next_event-requires-clause-inputs : goal.next_event-requires-clause-inputs

@@ -1,5 +1,5 @@
 use Rattle.std.proofs.lemmas.Bool.{false≢true}
-use Rattle.event_loops.proofs.Repeated.{follows-none}
+use Rattle.event_loops.proofs.FirstRepeatFound.{follows-none}
 use Rattle.event_loops.proofs.repeat.meets.Goals as goal
 
 pub follow-requires-clause-inputs : goal.follow-requires-clause-inputs

@@ -1,13 +1,13 @@
 use Rattle.std.proofs.Common.{◌∙◌, sym, ap}
 use Rattle.std.proofs.lemmas.Bool.{false≢true}
 use Rattle.sd_base.specs.SelfTimed
-use Rattle.selftimed.specs.Prints.{running_print_of}
+use Rattle.selftimed.specs.Fingerprints.{running_fingerprint_of}
 use Rattle.event_loops.proofs.search.has_shape.Goals as goal
 
-pub returns-then-running_print-checkpoint : goal.returns-then-running_print-checkpoint
-returns-then-running_print-checkpoint g c = (
+pub returns-then-running_fingerprint-checkpoint : goal.returns-then-running_fingerprint-checkpoint
+returns-then-running_fingerprint-checkpoint g c = (
   λ not. absurd (false≢true not),
-  λ same. absurd (c.if-running_print-checkpoint.true (c.requires.print ∙ (ap (λ (x : SelfTimed.Shape). running_print_of x.remaining) same ∙ sym c.requires.checkpoint.running_print))),
+  λ same. absurd (c.if-running_fingerprint-checkpoint.true (c.requires.fingerprint ∙ (ap (λ (x : SelfTimed.Shape). running_fingerprint_of x.remaining) same ∙ sym c.requires.checkpoint.running_fingerprint))),
 )
 
 pub returns : goal.returns

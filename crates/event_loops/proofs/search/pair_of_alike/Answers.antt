@@ -1,6 +1,6 @@
 use Rattle.std.proofs.Common.{refl}
 use Rattle.std.proofs.lemmas.Bool.{false≢true}
-use Rattle.event_loops.proofs.Searched.{kept-past, kept-pair}
+use Rattle.event_loops.proofs.KeptShapesFindPairs.{kept-past, kept-pair}
 use Rattle.event_loops.proofs.search.pair_of_alike.Goals as goal
 
 pub returns-then-has_shape : goal.returns-then-has_shape

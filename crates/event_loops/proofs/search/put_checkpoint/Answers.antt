@@ -1,6 +1,6 @@
 use Rattle.std.proofs.Common.{◌∙◌, ap}
 use Rattle.event_loops.specs.declared.search.Checkpoint.{Checkpoint}
-use Rattle.event_loops.proofs.Searched.{kept-here}
+use Rattle.event_loops.proofs.KeptShapesFindPairs.{kept-here}
 use Rattle.event_loops.proofs.search.put_checkpoint.Goals as goal
 
 pub returns-clause-watch : goal.returns-clause-watch

@@ -1,12 +1,12 @@
 use Rattle.std.proofs.Common.{◌∙◌, ◌≡◌, ◌+◌, refl, inl, ap, arith}
 use Rattle.sd_base.specs.SelfTimed.{events_by, starts_by}
 use Rattle.selftimed.specs.Moves.{IsNextEvent}
-use Rattle.loops.proofs.Ranks.{rank-first, rank-after}
-use Rattle.event_loops.proofs.Searched.{kept-on, few-before, few-first, many-next}
+use Rattle.loops.proofs.RanksRise.{rank-first, rank-after}
+use Rattle.event_loops.proofs.KeptShapesFindPairs.{kept-on, few-before, few-first, many-next}
 use Rattle.selftimed.specs.declared.engine.Stage.TheVariants.{Running}
 use Rattle.event_loops.specs.inside.Tracing.{IsTraceBefore}
-use Rattle.event_loops.proofs.Traced.{allowed-next}
-use Rattle.event_loops.proofs.Printed.{first-prints, more-prints}
+use Rattle.event_loops.proofs.TracesFollowEvents.{allowed-next}
+use Rattle.event_loops.proofs.FingerprintsTellShapes.{first-fingerprints, more-fingerprints}
 use Rattle.event_loops.proofs.search.search_after.Goals as goal
 
 pub loop-event-init : goal.loop-event-init
@@ -18,7 +18,7 @@ loop-event-init g c = record {
   number = ap (events_by (g.F.Firing.net c.args.engine.now.net.now)) c.requires.first ∙ rank-first (g.F.Firing.net c.args.engine.now.net.now);
   few = few-first (g.F.Firing.net c.args.engine.now.net.now) (g.met.F.Firing.lawful c.args.engine.now.net.now) c.requires.inputs c.args.engine.now.moment c.requires.first;
   watch = c.requires.watch;
-  prints = first-prints (g.F.Firing.net c.args.engine.now.net.now) c.args.engine.now.moment c.args.prints.now.items c.requires.first;
+  fingerprints = first-fingerprints (g.F.Firing.net c.args.engine.now.net.now) c.args.engine.now.moment c.args.fingerprints.now.items c.requires.first;
   trace = c.requires.trace;
   allowed = c.requires.allowed;
 }
@@ -56,8 +56,8 @@ loop-event-preserved g c =
       number = rank-after (g.F.Firing.net c.args.engine.now.net.now) (g.met.F.Firing.lawful c.args.engine.now.net.now) c.requires.inputs c.loop-event.engine.moment c.go_on.new.engine.moment next ∙ ap (λ n. n + 1) c.loop-event.invariant.number;
       few = few-before (g.F.Firing.net c.args.engine.now.net.now) (g.met.F.Firing.lawful c.args.engine.now.net.now) c.requires.inputs c.loop-event.engine.moment c.go_on.new.engine.moment (omega (arith, here, c.if-starts-gt-STARTS.false)) next;
       watch = rw (c.go_on.ensures.net, c.loop-event.invariant.net) at c.in_ok-renew.ensures;
-      prints = rw c.in_ok-push.ensures.items (more-prints (g.F.Firing.net c.args.engine.now.net.now) c.loop-event.engine.moment c.go_on.new.engine.moment c.upper_half.result c.loop-event.prints.items
-          (rw c.loop-event.invariant.net at c.upper_half.ensures) next c.loop-event.invariant.prints);
+      fingerprints = rw c.in_ok-push.ensures.items (more-fingerprints (g.F.Firing.net c.args.engine.now.net.now) c.loop-event.engine.moment c.go_on.new.engine.moment c.upper_half.result c.loop-event.fingerprints.items
+          (rw c.loop-event.invariant.net at c.upper_half.ensures) next c.loop-event.invariant.fingerprints);
       trace = rw (c.go_on.ensures.net, c.loop-event.invariant.net) at c.in_ok-add.ensures.few;
       allowed = allowed-next (g.F.Firing.net c.args.engine.now.net.now) c.args.states c.go_on.new.engine.moment c.loop-event.trace.moments.items c.add.new.self.moments.items c.loop-event.trace.starts.items c.add.new.self.starts.items
           c.loop-event.invariant.allowed (rw (c.go_on.ensures.net, c.loop-event.invariant.net) at c.in_ok-add.ensures.few) (rw (c.go_on.ensures.net, c.loop-event.invariant.net) at c.in_ok-add.ensures.many) next.event

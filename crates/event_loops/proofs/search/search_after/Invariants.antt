@@ -3,7 +3,7 @@ use Rattle.sd_base.specs.SelfTimed.{IsEvent, events_by, starts_by}
 use Rattle.selftimed.specs.declared.engine.Stage.TheVariants.{Running}
 use Rattle.event_loops.specs.inside.Searching.{IsWatch, FewBefore}
 use Rattle.sd_base.specs.declared.limits.TheConstants.{STARTS}
-use Rattle.event_loops.specs.inside.Printing.{ArePrints}
+use Rattle.event_loops.specs.inside.Fingerprinting.{AreFingerprints}
 use Rattle.event_loops.specs.inside.Tracing.{IsTrace, AreAllowed}
 use Rattle.event_loops.proofs.search.search_after.Given as goal
 
@@ -18,5 +18,5 @@ invariant-loop-event g l = record {
   watch : IsWatch (g.F.Firing.net l.fn.engine.net.now) (l.engine.moment + 1) l.watch;
   trace : starts_by (g.F.Firing.net l.fn.engine.net.now) l.engine.moment ≤ STARTS → IsTrace (g.F.Firing.net l.fn.engine.net.now) l.engine.moment l.trace.moments.items l.trace.starts.items;
   allowed : AreAllowed (g.F.Firing.net l.fn.engine.net.now) l.states l.trace.moments.items l.trace.starts.items;
-  prints : ArePrints (g.F.Firing.net l.fn.engine.net.now) l.engine.moment l.prints.items;
+  fingerprints : AreFingerprints (g.F.Firing.net l.fn.engine.net.now) l.engine.moment l.fingerprints.items;
 }

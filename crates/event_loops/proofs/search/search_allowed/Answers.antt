@@ -1,10 +1,10 @@
 use Rattle.std.proofs.Common.{inl, ap, arith}
 use Rattle.sd_base.specs.SelfTimed.{events_by}
-use Rattle.loops.proofs.Ranks.{rank-first}
-use Rattle.event_loops.proofs.Searched.{many-first}
+use Rattle.loops.proofs.RanksRise.{rank-first}
+use Rattle.event_loops.proofs.KeptShapesFindPairs.{many-first}
 use Rattle.selftimed.specs.declared.engine.Stage.TheVariants.{Fresh}
 use Rattle.event_loops.specs.inside.Tracing.{IsTraceBefore}
-use Rattle.event_loops.proofs.Traced.{none-allowed, allowed-next}
+use Rattle.event_loops.proofs.TracesFollowEvents.{none-allowed, allowed-next}
 use Rattle.event_loops.proofs.search.search_allowed.Goals as goal
 
 pub returns-then-not-branch-clause-refused : goal.returns-then-not-branch-clause-refused
@@ -38,5 +38,5 @@ search_after-requires-clause-allowed g c =
 pub returns-clause-traced : goal.returns-clause-traced
 returns-clause-traced g c = rw c.go_on.ensures.net at c.search_after.ensures.traced
 
-pub returns-clause-prints : goal.returns-clause-prints
-returns-clause-prints g c = rw c.go_on.ensures.net at c.search_after.ensures.prints
+pub returns-clause-fingerprints : goal.returns-clause-fingerprints
+returns-clause-fingerprints g c = rw c.go_on.ensures.net at c.search_after.ensures.fingerprints

@@ -2,8 +2,8 @@ use Rattle.std.proofs.Common.{◌∙◌, ◌≡◌, ◌≢◌, ◌+◌, ◌<◌,
 use Rattle.std.proofs.lemmas.Bool.{false≢true}
 use Rattle.sd_base.specs.SelfTimed.{shape_at, starts_by}
 use Rattle.selftimed.specs.Moves.{IsNextEvent}
-use Rattle.loops.proofs.Ranks.{starts-rise}
-use Rattle.event_loops.proofs.Searched.{none-yet, none-more, first-since, none-spent, none-many}
+use Rattle.loops.proofs.RanksRise.{starts-rise}
+use Rattle.event_loops.proofs.KeptShapesFindPairs.{none-yet, none-more, first-since, none-spent, none-many}
 use Rattle.event_loops.proofs.search.search_on.Goals as goal
 
 pub go_on-requires-clause-inputs : goal.go_on-requires-clause-inputs

@@ -1,4 +1,4 @@
-use Rattle.event_loops.proofs.Searched.{kept-here}
+use Rattle.event_loops.proofs.KeptShapesFindPairs.{kept-here}
 use Rattle.event_loops.proofs.search.watch_from.Goals as goal
 
 pub returns : goal.returns

@@ -1,4 +1,4 @@
-use Rattle.event_loops.proofs.Going.{stuck-never, goes-over}
+use Rattle.event_loops.proofs.LiveEnginesGoOn.{stuck-never, goes-over}
 use Rattle.event_loops.proofs.steps.go_on.Goals as goal
 
 pub unreachable-requires : goal.unreachable-requires

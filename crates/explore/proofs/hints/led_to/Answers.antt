@@ -2,11 +2,11 @@ use Rattle.std.proofs.Common.{◌≡◌, ◌∙◌, sym, subst}
 use Rattle.std.specs.Prelude.{slice_index_or}
 use Rattle.liveness.specs.RoundAnswers.{AreReachedCounts}
 use Rattle.storage.specs.BoundedNets.{bound}
-use Rattle.storage.proofs.Lawfulness.{bound-lawful}
+use Rattle.storage.proofs.BoundingKeepsLaws.{bound-lawful}
 use Rattle.evaluations.specs.Starts.{counts_at}
 use Rattle.explore.specs.declared.exploration.Member.{Member}
 use Rattle.explore.specs.inside.Hints.{IsHintAt}
-use Rattle.explore.proofs.Starting.{get-same, member-reached}
+use Rattle.explore.proofs.StartCountsReached.{get-same, member-reached}
 use Rattle.explore.proofs.hints.led_to.Goals as goal
 
 pub returns-in-Some : goal.returns-in-Some

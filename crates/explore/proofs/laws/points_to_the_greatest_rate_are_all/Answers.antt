@@ -1,6 +1,6 @@
 use Rattle.std.proofs.Common.{◌*◌, ◌≤◌, map, sym, subst}
 use Rattle.std.proofs.lemmas.List.Elements.{at_from_Contains}
-use Rattle.sd_base.proofs.Containing.{contains-map}
+use Rattle.sd_base.proofs.ContainedHavePlaces.{contains-map}
 use Rattle.storage.specs.ParetoPoints.{Pair, no_pair}
 use Rattle.explore.specs.Explorations.{pair_of}
 use Rattle.explore.proofs.WholeFronts.{front-up}

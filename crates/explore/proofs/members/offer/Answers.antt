@@ -3,7 +3,7 @@ use Rattle.std.specs.Prelude.{◌==◌, Contains}
 use Rattle.storage.specs.declared.distribution.Distribution.{Distribution}
 use Rattle.pareto_front.specs.declared.point.Point.{Point}
 use Rattle.explore.specs.inside.Searches.{offers_at}
-use Rattle.explore.proofs.Knowing.{front-as, offered-one, offers-some}
+use Rattle.explore.proofs.MembersStayKnown.{front-as, offered-one, offers-some}
 use Rattle.explore.proofs.members.offer.Goals as goal
 
 pub returns-clause-front : goal.returns-clause-front

@@ -1,4 +1,4 @@
-use Rattle.explore.proofs.Knowing.{kept-known, left-known}
+use Rattle.explore.proofs.MembersStayKnown.{kept-known, left-known}
 use Rattle.explore.proofs.members.offered.Goals as goal
 
 pub returns-in-Some-clause-known : goal.returns-in-Some-clause-known

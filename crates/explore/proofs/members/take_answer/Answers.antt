@@ -1,10 +1,10 @@
 use Rattle.std.proofs.Common.{◌+◌, ◌∷◌, refl, sym, ap}
 use Rattle.std.proofs.lemmas.List.Elements.{Contains-append_right}
 use Rattle.levels.specs.Visits.{visited, visits_of}
-use Rattle.sd_base.proofs.Containing.{contains-here}
+use Rattle.sd_base.proofs.ContainedHavePlaces.{contains-here}
 use Rattle.evaluations.specs.Evaluating.{least_loops, most_loops}
 use Rattle.explore.specs.inside.Members.{member_of}
-use Rattle.explore.proofs.Searching.{search-candidate}
+use Rattle.explore.proofs.VisitsMatchMembers.{search-candidate}
 use Rattle.explore.proofs.members.take_answer.Goals as goal
 
 pub take_in-requires-clause-rated : goal.take_in-requires-clause-rated

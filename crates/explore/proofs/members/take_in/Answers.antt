@@ -4,8 +4,8 @@ use Rattle.levels.specs.Visits.{led_by, visits_of}
 use Rattle.levels.specs.Frontiers.{AreLedOn, IsFrontier, IsSpent, Rises}
 use Rattle.explore.specs.declared.exploration.Member.{Member}
 use Rattle.explore.specs.inside.Members.{evaluated_member}
-use Rattle.explore.proofs.Knowing.{same-member}
-use Rattle.explore.proofs.Turning.{shown-known, shown-rises, spent, taken-in, total-within}
+use Rattle.explore.proofs.MembersStayKnown.{same-member}
+use Rattle.explore.proofs.TurnsTakeLevels.{shown-known, shown-rises, spent, taken-in, total-within}
 use Rattle.explore.proofs.members.take_in.Goals as goal
 
 pub lead_on-requires-clause-channels : goal.lead_on-requires-clause-channels
@@ -35,9 +35,9 @@ returns-clause-search g c = λ rest s.
     let frontier : IsFrontier (g.F.Firing.net c.args.exploring.now.net.now).channels s.corner (c.args.total + 1) (visits_of s.entries ++ led_by c.args.capacities.capacities c.requires.rated.2.0.enlarge ∷ []) rest c.lead_on.new.self =
     subst (λ (xs : List ℕ). IsFrontier net.channels s.corner (c.args.total + 1) (visits_of s.entries ++ led_by c.args.capacities.capacities xs ∷ []) rest c.lead_on.new.self) same
     (c.in_ok-lead_on.ensures.frontier net.channels s.corner (visits_of s.entries) rest s.frontier (sym c.requires.total) rises_here) in
-    let on : AreLedOn (g.F.Firing.net c.args.exploring.now.net.now).channels c.args.search.now.levels.bounds.total (led_by c.args.capacities.capacities c.requires.rated.2.0.enlarge) (Some (length c.args.search.now.members.items)) c.args.search.now.levels.waiting.keys c.lead_on.new.self.waiting.keys =
-    subst (λ (n : ℕ). AreLedOn net.channels old.levels.bounds.total (led_by c.args.capacities.capacities e.enlarge) (Some n) old.levels.waiting.keys c.lead_on.new.self.waiting.keys) place
-    (subst (λ (xs : List ℕ). AreLedOn net.channels old.levels.bounds.total (led_by c.args.capacities.capacities xs) (Some c.len.result) old.levels.waiting.keys c.lead_on.new.self.waiting.keys) same
+    let on : AreLedOn (g.F.Firing.net c.args.exploring.now.net.now).channels c.args.search.now.levels.bounds.total (led_by c.args.capacities.capacities c.requires.rated.2.0.enlarge) (Some (length c.args.search.now.members.items)) c.args.search.now.levels.waiting c.lead_on.new.self.waiting =
+    subst (λ (n : ℕ). AreLedOn net.channels old.levels.bounds.total (led_by c.args.capacities.capacities e.enlarge) (Some n) old.levels.waiting c.lead_on.new.self.waiting) place
+    (subst (λ (xs : List ℕ). AreLedOn net.channels old.levels.bounds.total (led_by c.args.capacities.capacities xs) (Some c.len.result) old.levels.waiting c.lead_on.new.self.waiting) same
     (c.in_ok-lead_on.ensures.waiting net.channels s.frontier.over (sym c.requires.total) rises_here)) in
     let members : c.push.new.self.items ≡ c.args.search.now.members.items ++ evaluated_member c.args.capacities c.requires.rated.2.0 ∷ [] =
     c.in_ok-push.ensures.items ∙ ap (λ (m : Member). c.args.search.now.members.items ++ m ∷ []) (c.in_ok-member.ensures.member ∙ sym (same-member c.args.capacities c.requires.rated.0 e c.args.rated c.requires.rated.2.2)) in

@@ -7,8 +7,8 @@ use Rattle.evaluations.specs.Evaluating.{least_loops, most_loops, sum_of}
 use Rattle.explore.specs.inside.Searches.{IsAnswerOf, IsSearch, answered_of}
 use Rattle.explore.specs.Explorations.{capacities_of, cycles_in}
 use Rattle.explore.specs.inside.Members.{IsBest}
-use Rattle.explore.proofs.Knowing.{best-more}
-use Rattle.explore.proofs.Levelled.{capacities-same, cycles-same, many-same, rest-more}
+use Rattle.explore.proofs.MembersStayKnown.{best-more}
+use Rattle.explore.proofs.AnswersAddMembers.{capacities-same, cycles-same, many-same, rest-more}
 use Rattle.explore.proofs.members.take_in_all.Goals as goal
 
 pub take_answer-requires-clause-answer : goal.take_answer-requires-clause-answer

@@ -1,4 +1,4 @@
-use Rattle.explore.proofs.Beginning.{search-begun}
+use Rattle.explore.proofs.CornersBeginSearch.{search-begun}
 use Rattle.explore.proofs.search.begin.Goals as goal
 
 pub returns-clause-search : goal.returns-clause-search

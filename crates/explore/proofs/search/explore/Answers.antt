@@ -4,13 +4,13 @@ use Rattle.levels.specs.Entrances.{EnterByLevels}
 use Rattle.explore.specs.declared.exploration.Member.{Member}
 use Rattle.explore.specs.Explorations.{IsExploration, capacities_of, cycles_in}
 use Rattle.storage.proofs.CornerLists.{corner-distribution}
-use Rattle.storage.proofs.Enlarging.{distribution-length}
-use Rattle.explore.proofs.Beginning.{ended-none}
+use Rattle.storage.proofs.EnlargingAddsRoom.{distribution-length}
+use Rattle.explore.proofs.CornersBeginSearch.{ended-none}
 use Rattle.explore.proofs.CountedLoops.{counts-live}
 use Rattle.explore.proofs.CountedPoints.{points-few}
-use Rattle.explore.proofs.Ending.{explored}
-use Rattle.explore.proofs.Searching.{corner-candidate}
-use Rattle.explore.proofs.Stepping.{candidate-evaluable}
+use Rattle.explore.proofs.PointsFormFront.{explored}
+use Rattle.explore.proofs.VisitsMatchMembers.{corner-candidate}
+use Rattle.explore.proofs.StepsGiveCandidates.{candidate-evaluable}
 use Rattle.explore.proofs.search.explore.Goals as goal
 
 pub take_turns-requires-clause-stands : goal.take_turns-requires-clause-stands

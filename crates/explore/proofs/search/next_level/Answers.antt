@@ -1,5 +1,5 @@
 use Rattle.std.proofs.Common.{refl}
-use Rattle.explore.proofs.Turning.{next-turn}
+use Rattle.explore.proofs.TurnsTakeLevels.{next-turn}
 use Rattle.explore.proofs.search.next_level.Goals as goal
 
 pub returns-clause-level : goal.returns-clause-level

@@ -5,9 +5,9 @@ use Rattle.sd_base.specs.Counter.{Tally}
 use Rattle.levels.specs.declared.found.Found.{Found}
 use Rattle.levels.specs.Frontiers.{distributions_of}
 use Rattle.explore.specs.inside.Searches.{IsSearch}
-use Rattle.explore.proofs.Entering.{turn-entered}
-use Rattle.explore.proofs.Searching.{counts-few, search-few}
-use Rattle.explore.proofs.Turning.{answered-level, answers-long, best-of, cycles-few, level-answers, sum-few}
+use Rattle.explore.proofs.LevelMembersEnter.{turn-entered}
+use Rattle.explore.proofs.VisitsMatchMembers.{counts-few, search-few}
+use Rattle.explore.proofs.TurnsTakeLevels.{answered-level, answers-long, best-of, cycles-few, level-answers, sum-few}
 use Rattle.explore.proofs.search.take_turn.Goals as goal
 
 pub take_in_all-requires-clause-answers : goal.take_in_all-requires-clause-answers

@@ -1,8 +1,8 @@
 use Rattle.std.proofs.Common.{◌≡◌, [], sym, ap, ◌∙◌, subst, arith}
 use Rattle.levels.specs.Entrances.{EnterByLevels}
 use Rattle.explore.specs.Explorations.{capacities_of, cycles_in}
-use Rattle.explore.proofs.Searching.{counts-few}
-use Rattle.explore.proofs.Turning.{cycles-few}
+use Rattle.explore.proofs.VisitsMatchMembers.{counts-few}
+use Rattle.explore.proofs.TurnsTakeLevels.{cycles-few}
 use Rattle.explore.proofs.search.take_turns.Goals as goal
 
 pub returns-in_err-level-clause-most : goal.returns-in_err-level-clause-most

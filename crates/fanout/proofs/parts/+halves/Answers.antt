@@ -1,4 +1,4 @@
-use Rattle.fanout.proofs.Running.{joined-entered}
+use Rattle.fanout.proofs.RunJobsEnter.{joined-entered}
 use Rattle.fanout.proofs.parts.+halves.Goals as goal
 
 pub part-returns-clause-entered : goal.part-returns-clause-entered

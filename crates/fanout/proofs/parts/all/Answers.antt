@@ -1,4 +1,4 @@
-use Rattle.fanout.proofs.Running.{from-first}
+use Rattle.fanout.proofs.RunJobsEnter.{from-first}
 use Rattle.fanout.proofs.parts.all.Goals as goal
 
 pub returns-clause-entered : goal.returns-clause-entered

@@ -4,7 +4,7 @@ use Rattle.file_text.specs.declared.scanner.Frame.{Frame}
 use Rattle.file_text.specs.Node.{tree_of}
 use Rattle.file_text.specs.inside.Machine.{grown}
 use Rattle.file_text.specs.inside.Seen.{opened_of}
-use Rattle.file_text.proofs.Sees.{grows}
+use Rattle.file_text.proofs.ReaderMatchesMachine.{grows}
 use Rattle.file_text.proofs.end_tags.grow.Goals as goal
 
 pub returns : goal.returns

@@ -2,7 +2,7 @@ use Rattle.std.proofs.Common.{◌≡◌, sym, inr, true, take, arith, rules}
 use Rattle.std.proofs.lemmas.List.{take_all, length-drop, take_rest}
 use Rattle.file_text.specs.Node.{tree_of}
 use Rattle.file_text.specs.inside.Seen.{state_of}
-use Rattle.file_text.proofs.Exact.{tidy_at}
+use Rattle.file_text.proofs.MachineReadsExactly.{tidy_at}
 use Rattle.file_text.proofs.RecognisedFaults.{no_fault}
 use Rattle.file_text.proofs.LoopOutcomes.{goes_on, read_text, read_only, early_fault}
 use Rattle.file_text.proofs.ValueTexts.{text-characters}

@@ -1,4 +1,4 @@
-use Rattle.file_text.proofs.Known.{begins_stands}
+use Rattle.file_text.proofs.OneKnownFault.{begins_stands}
 use Rattle.file_text.proofs.read.stands.Goals as goal
 
 pub returns : goal.returns

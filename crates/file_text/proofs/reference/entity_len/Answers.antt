@@ -1,6 +1,6 @@
 use Rattle.std.proofs.Common.{◌≢◌}
 use Rattle.file_text.specs.declared.reference.Referred.TheVariants.{More, Done, Leaves}
-use Rattle.file_text.proofs.Entities.{entity-begins, entity-more}
+use Rattle.file_text.proofs.EntitiesGoOn.{entity-begins, entity-more}
 use Rattle.file_text.proofs.reference.entity_len.Goals as goal
 
 pub loop-count-init : goal.loop-count-init

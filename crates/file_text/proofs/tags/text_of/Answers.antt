@@ -1,4 +1,4 @@
-use Rattle.file_text.proofs.Utf8Laws.{IsUtf8-due_along}
+use Rattle.file_text.proofs.BytesSpellUtf8.{IsUtf8-due_along}
 use Rattle.file_text.proofs.tags.text_of.Goals as goal
 
 pub from_utf8_unchecked-requires : goal.from_utf8_unchecked-requires

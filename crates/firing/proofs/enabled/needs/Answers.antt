@@ -1,6 +1,6 @@
 use Rattle.std.proofs.Common.{arith}
 use Rattle.sd_base.specs.Net.{channel_at}
-use Rattle.sd_base.proofs.Sums.{total-bound}
+use Rattle.sd_base.proofs.SumsRepeatByTurns.{total-bound}
 use Rattle.firing.proofs.enabled.needs.Goals as goal
 
 pub overflow_add-result : goal.overflow_add-result

@@ -1,6 +1,6 @@
 use Rattle.std.proofs.Common.{ℕ, List, ◌<◌, length, subst, sym, ◌∙◌}
 use Rattle.std.specs.Prelude.{slice_index}
-use Rattle.firing.proofs.Wirings.{ends-below}
+use Rattle.firing.proofs.GroupsMakeWirings.{ends-below}
 use Rattle.firing.proofs.wiring.channels_by_actor.Goals as goal
 
 pub new-requires-clause-below : goal.new-requires-clause-below

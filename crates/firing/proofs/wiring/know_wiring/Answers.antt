@@ -1,4 +1,4 @@
-use Rattle.firing.proofs.Wirings.{wired-inputs, wired-outputs}
+use Rattle.firing.proofs.GroupsMakeWirings.{wired-inputs, wired-outputs}
 use Rattle.firing.proofs.wiring.know_wiring.Goals as goal
 
 pub returns-clause-inputs : goal.returns-clause-inputs

@@ -1,6 +1,6 @@
 use Rattle.std.proofs.Common.{refl, ap, ◌∙◌, [], ◌∷◌, ◌++◌}
 use Rattle.gen_graph.specs.MadeGraphs.{made_actor, made_actors}
-use Rattle.gen_graph.proofs.OneMore.{place_next, place_end}
+use Rattle.gen_graph.proofs.MadeListsGrow.{place_next, place_end}
 use Rattle.gen_graph.proofs.made.actor_rows.Goals as goal
 
 pub loop-i-preserved : goal.loop-i-preserved

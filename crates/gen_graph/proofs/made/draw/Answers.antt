@@ -3,7 +3,7 @@ use Rattle.std.specs.Prelude.{length}
 use Rattle.std.proofs.lemmas.List.{length_push}
 use Rattle.std.proofs.lemmas.List.Elements.{All-nil, All-push, All-same}
 use Rattle.gen_graph.specs.MadeGraphs.{IsDrawn, drawn_for}
-use Rattle.gen_graph.proofs.OneMore.{draw_next, draw_end}
+use Rattle.gen_graph.proofs.MadeListsGrow.{draw_next, draw_end}
 use Rattle.gen_graph.proofs.made.draw.Goals as goal
 
 pub loop-init : goal.loop-init

@@ -1,4 +1,4 @@
-use Rattle.gen_graph.proofs.OneMore.{channels_next, channels_end}
+use Rattle.gen_graph.proofs.MadeListsGrow.{channels_next, channels_end}
 use Rattle.gen_graph.proofs.made.rows_behind.Goals as goal
 
 pub loop-i-preserved : goal.loop-i-preserved

@@ -1,6 +1,6 @@
 use Rattle.std.proofs.Common.{refl, ap, ◌++◌}
 use Rattle.gen_graph.specs.NodeTexts.{escaped, escaped_byte}
-use Rattle.gen_graph.proofs.OneMore.{place_next, place_end}
+use Rattle.gen_graph.proofs.MadeListsGrow.{place_next, place_end}
 use Rattle.gen_graph.proofs.nodes.put_escaped.Goals as goal
 
 pub loop-byte-init : goal.loop-byte-init

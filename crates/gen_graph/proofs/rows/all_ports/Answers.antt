@@ -2,7 +2,7 @@ use Rattle.std.proofs.Common.{refl}
 use Rattle.file_text.specs.Node.{nodes}
 use Rattle.gen_graph.specs.NodeTexts.{elements_text}
 use Rattle.gen_graph.specs.GraphTrees.{ports_on, ports_from}
-use Rattle.gen_graph.proofs.OneMore.{place_next, place_end, elements_joined}
+use Rattle.gen_graph.proofs.MadeListsGrow.{place_next, place_end, elements_joined}
 use Rattle.gen_graph.proofs.rows.all_ports.Goals as goal
 
 pub loop-i-preserved : goal.loop-i-preserved

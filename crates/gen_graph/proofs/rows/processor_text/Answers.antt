@@ -4,7 +4,7 @@ use Rattle.std.proofs.lemmas.List.{append-nil}
 use Rattle.file_text.specs.Node.{nodes}
 use Rattle.gen_graph.specs.NodeTexts.{inside_text, tagged, element_text, elements_text}
 use Rattle.gen_graph.specs.GraphTrees.{leaf, processor_node}
-use Rattle.gen_graph.proofs.OneMore.{tag_two}
+use Rattle.gen_graph.proofs.MadeListsGrow.{tag_two}
 use Rattle.gen_graph.proofs.rows.processor_text.Goals as goal
 
 pub returns : goal.returns

@@ -3,7 +3,7 @@ use Rattle.std.specs.Prelude.{codes}
 use Rattle.file_text.specs.Node.{nodes}
 use Rattle.gen_graph.specs.NodeTexts.{attribute_text, inside_text, tagged, elements_text}
 use Rattle.gen_graph.specs.GraphTrees.{attribute, leaf, size_node}
-use Rattle.gen_graph.proofs.OneMore.{tag_one}
+use Rattle.gen_graph.proofs.MadeListsGrow.{tag_one}
 use Rattle.gen_graph.proofs.rows.put_size.Goals as goal
 
 pub returns : goal.returns

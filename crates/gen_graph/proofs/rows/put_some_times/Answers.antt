@@ -2,7 +2,7 @@ use Rattle.std.proofs.Common.{◌++◌, ap, ◌∙◌}
 use Rattle.std.specs.Prelude.{codes}
 use Rattle.gen_graph.specs.NodeTexts.{inside_text, tagged}
 use Rattle.gen_graph.specs.GraphTrees.{times_node}
-use Rattle.gen_graph.proofs.OneMore.{tag_one}
+use Rattle.gen_graph.proofs.MadeListsGrow.{tag_one}
 use Rattle.gen_graph.proofs.rows.put_some_times.Goals as goal
 
 pub returns : goal.returns

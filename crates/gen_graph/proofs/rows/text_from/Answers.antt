@@ -3,7 +3,7 @@ use Rattle.std.specs.Prelude.{codes}
 use Rattle.std.specs.Fmt.{decimal}
 use Rattle.std.specs.String.{string_bytes}
 use Rattle.std.proofs.lemmas.List.{append-nil}
-use Rattle.sd_base.proofs.Lists.{flat_next, flat_end}
+use Rattle.sd_base.proofs.ElementsKeepPlaces.{flat_next, flat_end}
 use Rattle.gen_graph.specs.GraphTrees.{numbers_text}
 use Rattle.gen_graph.proofs.rows.text_from.Goals as goal
 

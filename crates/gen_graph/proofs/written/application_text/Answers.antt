@@ -3,7 +3,7 @@ use Rattle.std.specs.Prelude.{codes}
 use Rattle.std.proofs.lemmas.List.{append-nil}
 use Rattle.gen_graph.specs.NodeTexts.{inside_text, tagged, element_text}
 use Rattle.gen_graph.specs.GraphTrees.{application_node}
-use Rattle.gen_graph.proofs.OneMore.{tag_one}
+use Rattle.gen_graph.proofs.MadeListsGrow.{tag_one}
 use Rattle.gen_graph.proofs.written.application_text.Goals as goal
 
 pub returns : goal.returns

@@ -2,7 +2,7 @@ use Rattle.std.proofs.Common.{refl}
 use Rattle.file_text.specs.Node.{nodes}
 use Rattle.gen_graph.specs.NodeTexts.{elements_text}
 use Rattle.gen_graph.specs.GraphTrees.{times_of, times_nodes}
-use Rattle.gen_graph.proofs.OneMore.{place_next, place_end, elements_joined}
+use Rattle.gen_graph.proofs.MadeListsGrow.{place_next, place_end, elements_joined}
 use Rattle.gen_graph.proofs.written.put_all_times.Goals as goal
 
 pub loop-actor-preserved : goal.loop-actor-preserved

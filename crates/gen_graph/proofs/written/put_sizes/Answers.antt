@@ -2,7 +2,7 @@ use Rattle.std.proofs.Common.{refl, map}
 use Rattle.file_text.specs.Node.{nodes}
 use Rattle.gen_graph.specs.NodeTexts.{element_text, elements_text}
 use Rattle.gen_graph.specs.GraphTrees.{size_node}
-use Rattle.gen_graph.proofs.OneMore.{place_next, place_end}
+use Rattle.gen_graph.proofs.MadeListsGrow.{place_next, place_end}
 use Rattle.gen_graph.proofs.written.put_sizes.Goals as goal
 
 pub loop-channel-preserved : goal.loop-channel-preserved

@@ -1,7 +1,7 @@
 use Rattle.std.proofs.Common.{◌≡◌, ◌∙◌, None, Some, sym, ap}
 use Rattle.std.specs.List.{position}
 use Rattle.std.specs.Option.{option_copied}
-use Rattle.graph_reader.proofs.Registered.{is_named, numbered-none, numbered-some}
+use Rattle.graph_reader.proofs.NamesFindRows.{is_named, numbered-none, numbered-some}
 use Rattle.graph_reader.proofs.channels.numbered.Goals as goal
 
 pub returns-in-None : goal.returns-in-None

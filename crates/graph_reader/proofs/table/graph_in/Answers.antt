@@ -1,4 +1,4 @@
-use Rattle.graph_reader.proofs.Rules.{short_ports, join}
+use Rattle.graph_reader.proofs.TablesKeepRules.{short_ports, join}
 use Rattle.graph_reader.proofs.table.graph_in.Goals as goal
 
 pub with_properties-requires-clause-short : goal.with_properties-requires-clause-short

@@ -1,4 +1,4 @@
-use Rattle.graph_reader.proofs.Rules.{short_lists}
+use Rattle.graph_reader.proofs.TablesKeepRules.{short_lists}
 use Rattle.graph_reader.proofs.table.with_properties.Goals as goal
 
 pub timed_table-requires-clause-short : goal.timed_table-requires-clause-short

@@ -2,8 +2,8 @@ use Rattle.std.proofs.Common.{◌≡◌, ◌+◌, ◌++◌, ◌∷◌, ◌<◌, 
 use Rattle.std.specs.Prelude.{◌↔◌, Contains}
 use Rattle.critical.specs.Spaces.{IsRising}
 use Rattle.storage.specs.ShownSpaces.{ShowsSpace}
-use Rattle.sd_base.proofs.Containing.{listed-more, listed-other}
-use Rattle.guide.proofs.Listing.{rising-more}
+use Rattle.sd_base.proofs.ContainedHavePlaces.{listed-more, listed-other}
+use Rattle.guide.proofs.RisingListsGrow.{rising-more}
 use Rattle.guide.proofs.held_up.shown_channels.Goals as goal
 use Rattle.guide.proofs.held_up.shown_channels.Goals.{then-shows_space+in_ok-push, else-shows_space}
 

@@ -1,4 +1,4 @@
-use Rattle.guide.proofs.Shown.{cycle-shows, evaluation-shows}
+use Rattle.guide.proofs.EnlargedAreInGuide.{cycle-shows, evaluation-shows}
 use Rattle.guide.proofs.laws.enlarged_channels_are_in_the_guide.Goals as goal
 
 pub returns-clause-cycle : goal.returns-clause-cycle

@@ -1,4 +1,4 @@
-use Rattle.guide.proofs.Elsewhere.{counts-bound, elsewhere-slower}
+use Rattle.guide.proofs.OtherRoomGainsNothing.{counts-bound, elsewhere-slower}
 use Rattle.guide.proofs.laws.room_elsewhere_gains_nothing.Goals as goal
 
 pub returns-clause-dependencies : goal.returns-clause-dependencies

@@ -1,7 +1,7 @@
 use Rattle.std.proofs.Common.{◌≡◌, ℕ, List, slice_index, subst, arith, rules}
 use Rattle.std.specs.Prelude.{◌↔◌, Contains}
 use Rattle.storage.specs.ShownSpaces.{ShowsSpace}
-use Rattle.guide.proofs.Blocked.{blocked-evaluated}
+use Rattle.guide.proofs.BlockedNetsAreEvaluated.{blocked-evaluated}
 use Rattle.guide.proofs.rating.evaluate_blocked.Goals as goal
 
 pub returns-clause-evaluated : goal.returns-clause-evaluated

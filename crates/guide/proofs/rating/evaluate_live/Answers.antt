@@ -3,8 +3,8 @@ use Rattle.sd_base.specs.Net.{Net}
 use Rattle.lasso.specs.LoopAnswers.{IsFound}
 use Rattle.critical.specs.CriticalCycles.{IsCriticalCycleOf}
 use Rattle.critical.specs.Spaces.{AreSpaces}
-use Rattle.critical.proofs.Storage.{chain-places}
-use Rattle.guide.proofs.Evaluating.{live-evaluated}
+use Rattle.critical.proofs.ListedSpacesRise.{chain-places}
+use Rattle.guide.proofs.LiveNetsAreEvaluated.{live-evaluated}
 use Rattle.guide.proofs.rating.evaluate_live.Goals as goal
 
 pub storage_channels-requires : goal.storage_channels-requires

@@ -1,4 +1,4 @@
-use Rattle.levels.proofs.Spreading.{frontier-up_to}
+use Rattle.levels.proofs.SearchesSpread.{frontier-up_to}
 use Rattle.levels.proofs.laws.levels_end_anywhere.Goals as goal
 
 pub returns : goal.returns

@@ -1,7 +1,7 @@
 use Rattle.std.proofs.Common.{◌≡◌, ◌+◌, ◌≤◌, ◌*◌, arith}
 use Rattle.sd_base.specs.declared.limits.TheConstants.{RATE}
 use Rattle.sd_base.specs.Net.{channel_at, total}
-use Rattle.sd_base.proofs.Sums.{total-bound, total-zero}
+use Rattle.sd_base.proofs.SumsRepeatByTurns.{total-bound, total-zero}
 use Rattle.firing.specs.Ports.{rates_at}
 use Rattle.liveness.proofs.ending.moved_sum.Goals as goal
 

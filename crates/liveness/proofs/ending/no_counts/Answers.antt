@@ -1,5 +1,5 @@
 use Rattle.std.proofs.Common.{◌≡◌, ◌∙◌, replicate}
-use Rattle.liveness.proofs.Reaching.{none-reached}
+use Rattle.liveness.proofs.CountsAreReached.{none-reached}
 use Rattle.liveness.proofs.ending.no_counts.Goals as goal
 
 pub returns : goal.returns

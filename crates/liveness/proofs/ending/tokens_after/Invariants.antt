@@ -1,5 +1,5 @@
 use Rattle.std.specs.Prelude.{slice_index}
-use Rattle.liveness.proofs.Reaching.{LevelsBelow}
+use Rattle.liveness.proofs.CountsAreReached.{LevelsBelow}
 use Rattle.liveness.proofs.ending.tokens_after.Given as goal
 
 abbrev pub invariant-loop-channel : goal.invariant-loop-channel

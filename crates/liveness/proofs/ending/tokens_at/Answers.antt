@@ -1,6 +1,6 @@
 use Rattle.std.proofs.Common.{◌≡◌, slice_index, arith}
 use Rattle.sd_base.specs.Net.{channel_at, total}
-use Rattle.liveness.proofs.Reaching.{IsPaidAt, reached-paid}
+use Rattle.liveness.proofs.CountsAreReached.{IsPaidAt, reached-paid}
 use Rattle.liveness.proofs.ending.tokens_at.Goals as goal
 
 pub overflow_sub-result : goal.overflow_sub-result

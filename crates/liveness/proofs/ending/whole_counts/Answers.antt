@@ -1,7 +1,7 @@
 use Rattle.std.proofs.Common.{◌≡◌, ◌∙◌, sym, take, arith}
 use Rattle.std.proofs.lemmas.List.{take_all}
-use Rattle.sd_base.proofs.Parts.{balanced}
-use Rattle.liveness.proofs.Reaching.{whole-reached}
+use Rattle.sd_base.proofs.LawfulIsRegular.{balanced}
+use Rattle.liveness.proofs.CountsAreReached.{whole-reached}
 use Rattle.liveness.proofs.ending.whole_counts.Goals as goal
 
 pub returns : goal.returns

@@ -1,4 +1,4 @@
-use Rattle.liveness.proofs.Naming.{name-lack}
+use Rattle.liveness.proofs.LacksAreNamed.{name-lack}
 use Rattle.liveness.proofs.round.lacking_channel.Goals as goal
 
 pub returns : goal.returns

@@ -1,5 +1,5 @@
 use Rattle.std.specs.Prelude.{slice_index}
-use Rattle.liveness.proofs.Naming.{NamesBelow}
+use Rattle.liveness.proofs.LacksAreNamed.{NamesBelow}
 use Rattle.liveness.proofs.round.lacking_channels.Given as goal
 
 abbrev pub invariant-loop-actor : goal.invariant-loop-actor

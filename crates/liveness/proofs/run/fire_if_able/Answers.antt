@@ -1,7 +1,7 @@
 use Rattle.std.proofs.Common.{◌++◌, replicate, refl, arith}
 use Rattle.std.specs.Prelude.{slice_index}
 use Rattle.sd_base.specs.Net.{channel_at}
-use Rattle.liveness.proofs.Streaks.{feeds-one, tokens-small, streak-enough, streak-run, streak-less, stopped-lack}
+use Rattle.liveness.proofs.TokensFeedSeries.{feeds-one, tokens-small, series-enough, series-run, series-less, stopped-lack}
 use Rattle.liveness.proofs.run.fire_if_able.Goals as goal
 
 pub returns-in-Some-clause-fired : goal.returns-in-Some-clause-fired
@@ -15,7 +15,7 @@ put_tokens-requires-clause-small g c =
 pub take_tokens-requires-clause-enough : goal.take_tokens-requires-clause-enough
 take_tokens-requires-clause-enough g c =
     let net = g.F.Firing.net c.args.wired.now.net.now in
-    streak-enough net c.know_laws.ensures c.args.counts.now c.args.tokens.now c.requires.run.order c.args.actor 1 c.requires.run.run c.requires.actor
+    series-enough net c.know_laws.ensures c.args.counts.now c.args.tokens.now c.requires.run.order c.args.actor 1 c.requires.run.run c.requires.actor
     (omega (arith, c.if-count-round.false, c.round.ensures))
     (λ i place into. feeds-one (channel_at net i) (slice_index c.args.tokens.now i) (slice_index c.args.counts.now c.args.actor) (c.in_default.ensures i place into))
     c.put_tokens.new.tokens c.put_tokens.ensures (omega arith)
@@ -26,7 +26,7 @@ returns-clause-run g c =
     record {
       order = c.requires.run.order ++ replicate 1 c.args.actor;
       noted = c.in_ok-fired.ensures c.requires.run.order c.requires.run.noted;
-      run = streak-run net c.know_laws.ensures c.args.counts.now c.args.tokens.now c.requires.run.order c.args.actor 1 c.requires.run.run c.requires.actor
+      run = series-run net c.know_laws.ensures c.args.counts.now c.args.tokens.now c.requires.run.order c.args.actor 1 c.requires.run.run c.requires.actor
           (omega (arith, c.if-count-round.false, c.round.ensures))
           (λ i place into. feeds-one (channel_at net i) (slice_index c.args.tokens.now i) (slice_index c.args.counts.now c.args.actor) (c.in_default.ensures i place into))
           c.put_tokens.new.tokens c.put_tokens.ensures c.take_tokens.new.tokens c.take_tokens.ensures c.put_tokens.auto.tokens c.take_tokens.auto.tokens;
@@ -35,7 +35,7 @@ returns-clause-run g c =
 pub returns-clause-fired : goal.returns-clause-fired
 returns-clause-fired g c =
     let net = g.F.Firing.net c.args.wired.now.net.now in
-    streak-less net c.know_laws.ensures c.args.counts.now c.args.tokens.now c.requires.run.order c.args.actor 1 c.requires.run.run c.requires.actor
+    series-less net c.know_laws.ensures c.args.counts.now c.args.tokens.now c.requires.run.order c.args.actor 1 c.requires.run.run c.requires.actor
     (omega (arith, c.if-count-round.false, c.round.ensures))
     (λ i place into. feeds-one (channel_at net i) (slice_index c.args.tokens.now i) (slice_index c.args.counts.now c.args.actor) (c.in_default.ensures i place into))
     (omega arith)

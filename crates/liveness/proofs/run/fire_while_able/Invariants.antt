@@ -1,7 +1,7 @@
 use Rattle.std.proofs.Common.{◌≡◌, ◌≢◌, ℕ, ◌<◌}
 use Rattle.std.specs.Prelude.{slice_index}
 use Rattle.std.specs.Bool.{MatchBool}
-use Rattle.sd_base.proofs.Ends.{left_of}
+use Rattle.sd_base.proofs.FiringOrdersEnd.{left_of}
 use Rattle.liveness.specs.inside.UntimedRuns.{IsNoted}
 use Rattle.liveness.proofs.run.fire_while_able.Given as goal
 

@@ -2,7 +2,7 @@ use Rattle.std.proofs.Common.{◌≤◌, length, subst, arith}
 use Rattle.std.proofs.lemmas.Bool.{MatchBool-at_true, MatchBool-at_false}
 use Rattle.firing.specs.declared.sums.Port.TheVariants.{Made}
 use Rattle.liveness.specs.inside.Looks.{LeavesFlags}
-use Rattle.liveness.proofs.Looking.{all-flagged, next-actor, flags-rest, looks-still, looks-fired, listed-few, looks-less, looks-one_less}
+use Rattle.liveness.proofs.LooksRunOut.{all-flagged, next-actor, flags-rest, looks-still, looks-fired, listed-few, looks-less, looks-one_less}
 use Rattle.liveness.proofs.run.run_out.Goals as goal
 
 pub looks-init : goal.looks-init

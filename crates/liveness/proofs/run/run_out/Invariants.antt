@@ -1,6 +1,6 @@
 use Rattle.liveness.specs.inside.UntimedRuns.{IsNoted}
 use Rattle.liveness.specs.inside.Looks.{LeavesFlags}
-use Rattle.liveness.proofs.Looking.{looks_left}
+use Rattle.liveness.proofs.LooksRunOut.{looks_left}
 use Rattle.liveness.proofs.run.run_out.Given as goal
 
 abbrev pub invariant-looks : goal.invariant-looks

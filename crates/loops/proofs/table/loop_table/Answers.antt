@@ -2,8 +2,8 @@ use Rattle.std.proofs.Common.{◌≡◌, ◌<◌, ◌∙◌, [], length, refl, a
 use Rattle.std.specs.Prelude.{◌/◌, slice_index_or}
 use Rattle.std.proofs.lemmas.List.{get_or_default}
 use Rattle.loops.specs.StartRows.{AreBetween}
-use Rattle.loops.proofs.Between.{between-table}
-use Rattle.loops.proofs.StartRows.{starts-ascend}
+use Rattle.loops.proofs.StartsMakeTables.{between-table}
+use Rattle.loops.proofs.RowsTellStarts.{starts-ascend}
 use Rattle.loops.proofs.table.loop_table.Goals as goal
 
 pub counts_by-requires : goal.counts_by-requires

@@ -1,6 +1,6 @@
 use Rattle.std.proofs.Common.{ℕ, ◌-◌, ◌≤◌, ◌<◌, length, arith, below_more}
 use Rattle.sd_base.specs.Schedules.{count_of, start_of}
-use Rattle.need_loops.proofs.Due.{row-at, row-last}
+use Rattle.need_loops.proofs.DueRowsAreSelfTimed.{row-at, row-last}
 use Rattle.need_loops.proofs.by_rounds.known_until.Goals as goal
 use Rattle.need_loops.proofs.by_rounds.known_until.Goals.{then-last-least, else-last-least}
 

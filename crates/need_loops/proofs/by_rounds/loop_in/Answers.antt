@@ -1,6 +1,6 @@
 use Rattle.std.proofs.Common.{◌≡◌, ◌^◌, ◌<◌, ◌∙◌, length, map, sum, ap, sym, arith}
 use Rattle.std.proofs.lemmas.Option.{IfSome_then}
-use Rattle.need_loops.proofs.Known.{due-ascend, past-soon, known-starts, loop-found}
+use Rattle.need_loops.proofs.RowsHoldAllStarts.{due-ascend, past-soon, known-starts, loop-found}
 use Rattle.need_loops.proofs.by_rounds.loop_in.Goals as goal
 
 pub starts_by-requires : goal.starts_by-requires

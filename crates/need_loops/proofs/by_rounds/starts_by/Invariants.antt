@@ -1,4 +1,4 @@
-use Rattle.need_loops.proofs.Known.{AreByBelow}
+use Rattle.need_loops.proofs.RowsHoldAllStarts.{AreByBelow}
 use Rattle.need_loops.proofs.by_rounds.starts_by.Given as goal
 
 abbrev pub invariant-loop-row : goal.invariant-loop-row

@@ -1,5 +1,5 @@
 use Rattle.std.proofs.Common.{◌≡◌, ◌++◌, [], ◌∷◌, arith}
-use Rattle.need_loops.proofs.Fed.{next-push, next-all}
+use Rattle.need_loops.proofs.FeedsGoOn.{next-push, next-all}
 use Rattle.need_loops.proofs.feeds.first_firings.Goals as goal
 
 pub loop-actor-preserved : goal.loop-actor-preserved

@@ -1,4 +1,4 @@
-use Rattle.need_loops.proofs.Fed.{AreNextBelow}
+use Rattle.need_loops.proofs.FeedsGoOn.{AreNextBelow}
 use Rattle.need_loops.proofs.feeds.first_firings.Given as goal
 
 abbrev pub invariant-loop-actor : goal.invariant-loop-actor

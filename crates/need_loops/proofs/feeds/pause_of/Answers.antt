@@ -1,6 +1,6 @@
 use Rattle.std.proofs.Common.{refl}
 use Rattle.sd_base.specs.Net.{channel_at}
-use Rattle.need_loops.proofs.Fed.{paces-of}
+use Rattle.need_loops.proofs.FeedsGoOn.{paces-of}
 use Rattle.need_loops.proofs.feeds.pause_of.Goals as goal
 
 pub returns-then-taken-eq1 : goal.returns-then-taken-eq1

@@ -1,5 +1,5 @@
 use Rattle.std.proofs.Common.{inl, inr, arith, below_more}
-use Rattle.need_loops.proofs.Due.{IsDone, next-at, whole}
+use Rattle.need_loops.proofs.DueRowsAreSelfTimed.{IsDone, next-at, whole}
 use Rattle.need_loops.proofs.needs.are_whole.Goals as goal
 use Rattle.need_loops.proofs.needs.are_whole.Goals.{in-Some+else-start-until, in_default}
 

@@ -1,5 +1,5 @@
 use Rattle.std.proofs.Common.{ℕ, ◌<◌}
-use Rattle.need_loops.proofs.Due.{IsDone}
+use Rattle.need_loops.proofs.DueRowsAreSelfTimed.{IsDone}
 use Rattle.need_loops.proofs.needs.are_whole.Given as goal
 
 abbrev pub invariant-loop-actor : goal.invariant-loop-actor

@@ -1,4 +1,4 @@
-use Rattle.need_loops.proofs.Due.{grow-none, grow-set}
+use Rattle.need_loops.proofs.DueRowsAreSelfTimed.{grow-none, grow-set}
 use Rattle.need_loops.proofs.needs.extend.Goals as goal
 
 pub loop-firing-init : goal.loop-firing-init

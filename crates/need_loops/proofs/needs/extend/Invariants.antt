@@ -1,4 +1,4 @@
-use Rattle.need_loops.proofs.Due.{IsGrown}
+use Rattle.need_loops.proofs.DueRowsAreSelfTimed.{IsGrown}
 use Rattle.need_loops.proofs.needs.extend.Given as goal
 
 abbrev pub invariant-loop-firing : goal.invariant-loop-firing

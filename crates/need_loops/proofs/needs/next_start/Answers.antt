@@ -2,7 +2,7 @@ use Rattle.std.proofs.Common.{◌≡◌, ℕ, List, ◌+◌, ◌-◌, length, ap
 use Rattle.std.specs.Prelude.{slice_index, slice_index_or}
 use Rattle.sd_base.specs.Schedules.{count_of, start_of}
 use Rattle.need_loops.specs.declared.feeds.Feed.{Feed}
-use Rattle.need_loops.proofs.Due.{fed-first, fed-pause, fed-same, fed-later, fed-stuck, fed-all, feed-at, feed-source, feed-short, pause-short, row-at, row-last}
+use Rattle.need_loops.proofs.DueRowsAreSelfTimed.{fed-first, fed-pause, fed-same, fed-later, fed-stuck, fed-all, feed-at, feed-source, feed-short, pause-short, row-at, row-last}
 use Rattle.need_loops.proofs.needs.next_start.Goals as goal
 use Rattle.need_loops.proofs.needs.next_start.Goals.{in-Some, in-None, then-feed-ne0+else-feed-row+then-start-end, then-feed-ne0+else-feed-row+else-start-end, else-feed-ne0}
 

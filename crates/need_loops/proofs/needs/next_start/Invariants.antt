@@ -1,4 +1,4 @@
-use Rattle.need_loops.proofs.Due.{AreFedBy}
+use Rattle.need_loops.proofs.DueRowsAreSelfTimed.{AreFedBy}
 use Rattle.need_loops.proofs.needs.next_start.Given as goal
 
 abbrev pub invariant-loop-feed : goal.invariant-loop-feed

@@ -1,5 +1,5 @@
 use Rattle.std.proofs.Common.{arith}
-use Rattle.need_loops.proofs.Due.{next-at, next-set}
+use Rattle.need_loops.proofs.DueRowsAreSelfTimed.{next-at, next-set}
 use Rattle.need_loops.proofs.needs.sweep.Goals as goal
 use Rattle.need_loops.proofs.needs.sweep.Goals.{then-flags-actor+in_ok-extend+then-branch, then-flags-actor+in_ok-extend+else-branch, else-flags-actor}
 

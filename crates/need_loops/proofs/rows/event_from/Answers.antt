@@ -2,7 +2,7 @@ use Rattle.std.proofs.Common.{◌≡◌, ◌<◌, ◌∙◌, [], length, inl, in
 use Rattle.std.specs.Prelude.{slice_index_or}
 use Rattle.std.proofs.lemmas.List.{get_or_default}
 use Rattle.need_loops.specs.inside.Showing.{IsFirstEnd}
-use Rattle.loops.proofs.StartRows.{starts-ascend}
+use Rattle.loops.proofs.RowsTellStarts.{starts-ascend}
 use Rattle.need_loops.proofs.RowLoops.{first-more, starts-soon, ends-first}
 use Rattle.need_loops.proofs.rows.event_from.Goals as goal
 use Rattle.need_loops.proofs.rows.event_from.Goals.{then-end-first, else-end-first}

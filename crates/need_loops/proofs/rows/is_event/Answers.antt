@@ -2,7 +2,7 @@ use Rattle.std.proofs.Common.{◌≡◌, ℕ, ◌+◌, ◌<◌, ◌∙◌, [], l
 use Rattle.std.specs.Prelude.{slice_index, slice_index_or}
 use Rattle.std.proofs.lemmas.List.{get_or_default}
 use Rattle.sd_base.specs.Schedules.{time_of}
-use Rattle.loops.proofs.StartRows.{starts-ascend}
+use Rattle.loops.proofs.RowsTellStarts.{starts-ascend}
 use Rattle.need_loops.proofs.RowLoops.{EndsIn, ends-event, event-ends}
 use Rattle.need_loops.proofs.rows.is_event.Goals as goal
 

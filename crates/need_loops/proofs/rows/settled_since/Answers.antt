@@ -5,7 +5,7 @@ use Rattle.sd_base.specs.Schedules.{count_of}
 use Rattle.loops.specs.StartRows.{AreBy}
 use Rattle.loops.specs.Settling.{IsFirstSettled}
 use Rattle.loops.proofs.RowsSettle.{next-settled, next-first}
-use Rattle.loops.proofs.StartRows.{starts-ascend, ends-rise}
+use Rattle.loops.proofs.RowsTellStarts.{starts-ascend, ends-rise}
 use Rattle.need_loops.proofs.rows.settled_since.Goals as goal
 use Rattle.need_loops.proofs.rows.settled_since.Goals.{then-from-settled, else-from-settled}
 

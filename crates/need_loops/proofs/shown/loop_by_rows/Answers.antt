@@ -1,5 +1,5 @@
 use Rattle.std.proofs.Common.{◌+◌, ◌≤◌, arith}
-use Rattle.need_loops.proofs.Totals.{starts-in_rows, events-in_rows}
+use Rattle.need_loops.proofs.StartsBoundEvents.{starts-in_rows, events-in_rows}
 use Rattle.need_loops.proofs.shown.loop_by_rows.Goals as goal
 
 pub returns-in-Some : goal.returns-in-Some

@@ -1,7 +1,7 @@
 use Rattle.std.proofs.Common.{◌≡◌, ◌<◌, [], length, arith}
 use Rattle.std.specs.Prelude.{slice_index_or}
-use Rattle.need_loops.proofs.Due.{row-at}
-use Rattle.need_loops.proofs.Apart.{differ-from}
+use Rattle.need_loops.proofs.DueRowsAreSelfTimed.{row-at}
+use Rattle.need_loops.proofs.FiringsStartApart.{differ-from}
 use Rattle.need_loops.proofs.unlike.differ.Goals as goal
 
 pub returns-in-Some-other_than : goal.returns-in-Some-other_than

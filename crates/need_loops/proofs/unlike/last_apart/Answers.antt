@@ -1,7 +1,7 @@
 use Rattle.std.proofs.Common.{◌≡◌, ◌*◌, ◌<◌, [], length, arith}
 use Rattle.std.specs.Prelude.{slice_index_or}
-use Rattle.need_loops.proofs.Due.{row-at}
-use Rattle.need_loops.proofs.Apart.{apart-first}
+use Rattle.need_loops.proofs.DueRowsAreSelfTimed.{row-at}
+use Rattle.need_loops.proofs.FiringsStartApart.{apart-first}
 use Rattle.need_loops.proofs.unlike.last_apart.Goals as goal
 
 pub returns-then-earlier-last : goal.returns-then-earlier-last

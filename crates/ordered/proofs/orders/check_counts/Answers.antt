@@ -2,7 +2,7 @@ use Rattle.std.proofs.Common.{◌∙◌, ℕ, Some, sym, ap}
 use Rattle.std.specs.Prelude.{◌==◌, ◌&&◌, not, slice_index}
 use Rattle.ordered.specs.OrderedNets.{is_named}
 use Rattle.ordered.specs.declared.orders.OrderError.TheVariants.{Count}
-use Rattle.ordered.proofs.Faults.{count-whole, count-faulty, counts-over}
+use Rattle.ordered.proofs.FirstFaultIsTold.{count-whole, count-faulty, counts-over}
 use Rattle.ordered.proofs.orders.check_counts.Goals as goal
 
 pub returns-then-is_short-clause-fault : goal.returns-then-is_short-clause-fault

@@ -2,7 +2,7 @@ use Rattle.std.proofs.Common.{◌≡◌, ◌∙◌, ◌≤◌, ◌+◌, ℕ, Lis
 use Rattle.std.proofs.lemmas.List.{length-take, take_all}
 use Rattle.ordered.specs.OrderedNets.{order_channels}
 use Rattle.ordered.specs.inside.Steps.{pairs_from}
-use Rattle.ordered.proofs.Faults.{pairs-listed, pairs-grow, pairs-few, pairs-many}
+use Rattle.ordered.proofs.FirstFaultIsTold.{pairs-listed, pairs-grow, pairs-few, pairs-many}
 use Rattle.ordered.proofs.orders.check_pairs.Goals as goal
 
 pub returns-then-room-more-clause-fault : goal.returns-then-room-more-clause-fault

@@ -1,6 +1,6 @@
 use Rattle.std.proofs.Common.{◌<◌, length, refl, arith}
 use Rattle.std.specs.Prelude.{slice_index}
-use Rattle.ordered.proofs.Faults.{mark-more}
+use Rattle.ordered.proofs.FirstFaultIsTold.{mark-more}
 use Rattle.ordered.proofs.orders.mark.Goals as goal
 
 pub loop-actor-preserved : goal.loop-actor-preserved

@@ -4,7 +4,7 @@ use Rattle.std.proofs.lemmas.Result.{err_from_is_err_and}
 use Rattle.ordered.specs.OrderedNets.{is_named}
 use Rattle.ordered.specs.NamedOrders.{Tells, entries_fault, order_fault, order_of}
 use Rattle.ordered.specs.inside.Marks.{is_marked}
-use Rattle.ordered.proofs.Faults.{list-whole, list-faulty, lists-over, list-pushed, marks-more, order_fault-alike}
+use Rattle.ordered.proofs.FirstFaultIsTold.{list-whole, list-faulty, lists-over, list-pushed, marks-more, order_fault-alike}
 use Rattle.ordered.proofs.orders.numbered.Goals as goal
 
 pub returns-clause-whole : goal.returns-clause-whole

@@ -3,7 +3,7 @@ use Rattle.std.proofs.lemmas.List.Elements.{All-append, All-cons, All-nil}
 use Rattle.std.proofs.lemmas.Result.{err_from_is_err_and}
 use Rattle.ordered.specs.NamedOrders.{Tells}
 use Rattle.ordered.specs.inside.Marks.{is_marked}
-use Rattle.ordered.proofs.Faults.{entry-whole, entry-faulty, entries-over, entry-pushed}
+use Rattle.ordered.proofs.FirstFaultIsTold.{entry-whole, entry-faulty, entries-over, entry-pushed}
 use Rattle.ordered.proofs.orders.numbered_order.Goals as goal
 
 pub returns-in_err-numbered_entry-clause-fault : goal.returns-in_err-numbered_entry-clause-fault

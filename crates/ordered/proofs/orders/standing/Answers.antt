@@ -2,7 +2,7 @@ use Rattle.std.proofs.Common.{◌≡◌, ◌∙◌, ◌+◌, drop, ℕ, List, sy
 use Rattle.std.specs.Prelude.{◌==◌, count_by}
 use Rattle.std.specs.List.{list_any}
 use Rattle.ordered.specs.NamedOrders.{standing}
-use Rattle.ordered.proofs.Faults.{standing-here, standing-next}
+use Rattle.ordered.proofs.FirstFaultIsTold.{standing-here, standing-next}
 use Rattle.ordered.proofs.orders.standing.Goals as goal
 
 pub returns-then-has_entry : goal.returns-then-has_entry

@@ -1,7 +1,7 @@
 use Rattle.std.proofs.Common.{◌++◌, length, map, take}
 use Rattle.sd_base.specs.Lawful.{is_token_role, is_space_role}
 use Rattle.ordered.specs.OrderedNets.{order_channels, owns_from, phases_in, rephased, with_role}
-use Rattle.ordered.proofs.Filling.{Holds}
+use Rattle.ordered.proofs.PlacesHoldChannels.{Holds}
 use Rattle.ordered.proofs.places.places_of.Given as goal
 
 abbrev pub invariant-loop-actor : goal.invariant-loop-actor

@@ -1,7 +1,7 @@
 use Rattle.std.proofs.Common.{◌∙◌, length, refl}
 use Rattle.ordered.proofs.FitRates.{pair-fits}
-use Rattle.ordered.proofs.Sides.{pairs-all}
-use Rattle.ordered.proofs.Pushes.{pairs-pushed, pairs-whole}
+use Rattle.ordered.proofs.PairsAreNeighbours.{pairs-all}
+use Rattle.ordered.proofs.PlacesAddChannels.{pairs-pushed, pairs-whole}
 use Rattle.ordered.proofs.places.push_steps.Goals as goal
 
 pub order_channel_of-requires-clause-made : goal.order_channel_of-requires-clause-made

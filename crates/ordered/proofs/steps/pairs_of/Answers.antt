@@ -2,7 +2,7 @@ use Rattle.std.proofs.Common.{◌≡◌, ◌∙◌, length, arith, ℕ, List, []
 use Rattle.std.specs.Prelude.{slice_index}
 use Rattle.std.proofs.lemmas.List.{length-append, take_all}
 use Rattle.ordered.specs.inside.Steps.{pairs_from}
-use Rattle.ordered.proofs.Sides.{pairs-cut, pairs-new, pairs-same}
+use Rattle.ordered.proofs.PairsAreNeighbours.{pairs-cut, pairs-new, pairs-same}
 use Rattle.ordered.proofs.steps.pairs_of.Goals as goal
 use Rattle.ordered.proofs.steps.pairs_of.Goals.{then-not-has_pair+in_ok-push, else-not-has_pair}
 

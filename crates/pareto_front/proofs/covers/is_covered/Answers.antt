@@ -2,7 +2,7 @@ use Rattle.std.proofs.Common.{subst, refl, arith}
 use Rattle.pareto_front.specs.Offers.{Covers}
 use Rattle.pareto_front.specs.declared.point.Point.{Point}
 use Rattle.pareto_front.specs.Points.{offer_of}
-use Rattle.pareto_front.proofs.Putting.{covered-at, none-covers}
+use Rattle.pareto_front.proofs.PointsTakePlaces.{covered-at, none-covers}
 use Rattle.pareto_front.proofs.covers.is_covered.Goals as goal
 
 pub returns-then-covers : goal.returns-then-covers

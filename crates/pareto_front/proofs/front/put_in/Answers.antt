@@ -2,7 +2,7 @@ use Rattle.std.proofs.Common.{◌≡◌, ◌∙◌, ◌+◌, ◌++◌, ◌∷◌
 use Rattle.pareto_front.specs.Offers.{IsCoveredBy}
 use Rattle.pareto_front.specs.declared.point.Point.{Point}
 use Rattle.pareto_front.specs.Points.{IsOffered, left_points, offer_of, put_point}
-use Rattle.pareto_front.proofs.Putting.{cut-inserted, offered-front, put-parts}
+use Rattle.pareto_front.proofs.PointsTakePlaces.{cut-inserted, offered-front, put-parts}
 use Rattle.pareto_front.proofs.front.put_in.Goals as goal
 
 offered : (c : goal.After-remove_between) → IsOffered c.args.point c.args.points.now.items c.remove_between.new.points.items

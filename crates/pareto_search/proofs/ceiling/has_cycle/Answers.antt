@@ -5,7 +5,7 @@ use Rattle.firing.specs.Wiring.{IsWiringOf}
 use Rattle.critical.specs.Unspaced.{IsUnspaced}
 use Rattle.guide.specs.Evaluations.{IsEvaluable}
 use Rattle.pareto_search.specs.inside.Vectors.{bounded_by}
-use Rattle.pareto_search.proofs.Ceilings.{bounds-all}
+use Rattle.pareto_search.proofs.UnspacedCyclesBound.{bounds-all}
 use Rattle.pareto_search.proofs.WithinLimit.{among-evaluable}
 use Rattle.pareto_search.proofs.ceiling.has_cycle.Goals as goal
 

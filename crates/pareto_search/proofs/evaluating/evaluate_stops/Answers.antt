@@ -1,6 +1,6 @@
 use Rattle.std.proofs.Common.{◌≡◌, ℕ, Option, List, map, sym, ap, ◌∙◌}
 use Rattle.std.proofs.lemmas.Result.{IfOk-weaker}
-use Rattle.sd_base.proofs.Lists.{map-map}
+use Rattle.sd_base.proofs.ElementsKeepPlaces.{map-map}
 use Rattle.storage.specs.declared.distribution.Distribution.{Distribution}
 use Rattle.evaluations.specs.declared.evaluating.Answered.{Answered}
 use Rattle.evaluations.specs.declared.evaluating.Visit.{Visit}

@@ -6,7 +6,7 @@ use Rattle.evaluations.specs.Evaluating.{IsVisitable}
 use Rattle.pareto_search.specs.declared.stops.Stop.{Stop}
 use Rattle.pareto_search.specs.inside.Stops.{IsStop}
 use Rattle.pareto_search.specs.inside.Vectors.{bounded_by}
-use Rattle.pareto_search.proofs.Visitable.{by-place, stop-visitable}
+use Rattle.pareto_search.proofs.StopsAreVisitable.{by-place, stop-visitable}
 use Rattle.pareto_search.proofs.evaluating.visits_of.Goals as goal
 
 pub counts_by-counts-requires : goal.counts_by-counts-requires

@@ -5,7 +5,7 @@ use Rattle.walks.specs.declared.telling.Telling.{Telling}
 use Rattle.pareto_search.specs.inside.Firsts.{IsSlower}
 use Rattle.pareto_search.proofs.FoundTellings.{known-counts}
 use Rattle.pareto_search.proofs.LevelStops.{stop-alone}
-use Rattle.pareto_search.proofs.Onward.{settling-on}
+use Rattle.pareto_search.proofs.LearningKeepsTellings.{settling-on}
 use Rattle.pareto_search.proofs.first.learn_stop.Goals as goal
 
 pub learn_from-requires-clause-stops : goal.learn_from-requires-clause-stops

@@ -3,7 +3,7 @@ use Rattle.std.specs.Prelude.{slice_index_or}
 use Rattle.sd_base.specs.Net.{channel_at}
 use Rattle.covers.specs.declared.lattice.Axis.{Axis}
 use Rattle.pareto_search.specs.inside.Vectors.{AreAxesOf, IsAxisOf}
-use Rattle.pareto_search.proofs.Axes.{axes-push, corner-length}
+use Rattle.pareto_search.proofs.CornersGiveAxes.{axes-push, corner-length}
 use Rattle.pareto_search.proofs.grid.lattice_of.Goals as goal
 
 pub loop-channel-preserved : goal.loop-channel-preserved

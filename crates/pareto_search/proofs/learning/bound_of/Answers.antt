@@ -7,5 +7,5 @@ use Rattle.pareto_search.proofs.learning.bound_of.Goals as goal
 pub returns : goal.returns
 returns c =
     let t = c.args.telling.now in
-    let all : take c.loop-channel.channel-index c.as_slice-channel-items.result.now ≡ t.enlarge = take_all c.loop-channel.channel-index c.as_slice-channel-items.result.now (omega arith) ∙ c.as_slice-channel-items.ensures in
-    bound-told t _ (c.loop-channel.invariant ∙ (ap (map (cap_of c.as_slice-capacities.result.now)) all ∙ ap (λ (ks : List ℕ). map (cap_of ks) t.enlarge) c.as_slice-capacities.ensures)) refl
+    let all : take c.loop-channel.channel-index c.as_slice-channel-items.result.now ≡ t.bounding = take_all c.loop-channel.channel-index c.as_slice-channel-items.result.now (omega arith) ∙ c.as_slice-channel-items.ensures in
+    bound-told t _ (c.loop-channel.invariant ∙ (ap (map (cap_of c.as_slice-capacities.result.now)) all ∙ ap (λ (ks : List ℕ). map (cap_of ks) t.bounding) c.as_slice-capacities.ensures)) refl

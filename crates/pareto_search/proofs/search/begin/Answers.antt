@@ -1,7 +1,7 @@
 use Rattle.std.proofs.Common.{◌≡◌, ℕ, List, refl, ap, ◌∙◌, arith}
 use Rattle.covers.specs.declared.lattice.Axis.{Axis}
 use Rattle.covers.specs.declared.lattice.Lattice.{Lattice}
-use Rattle.pareto_search.proofs.Begun.{begun}
+use Rattle.pareto_search.proofs.EmptySearchesStand.{begun}
 use Rattle.pareto_search.proofs.search.begin.Goals as goal
 
 pub returns-clause-standing : goal.returns-clause-standing

@@ -9,10 +9,10 @@ use Rattle.pareto_search.specs.inside.Knowledge.{IsTold}
 use Rattle.pareto_search.specs.inside.Turns.{EntersOn, IsAbsorbed}
 use Rattle.pareto_search.specs.inside.Vectors.{bounded_by}
 use Rattle.pareto_search.proofs.FoundTellings.{known-counts}
-use Rattle.pareto_search.proofs.Learned.{absorbed-told, answers-new, more-low}
+use Rattle.pareto_search.proofs.StopsAreNew.{absorbed-told, answers-new, more-low}
 use Rattle.pareto_search.proofs.LearnedCounts.{AreAnswersOf, answers-many, more-many, stops-counts, stops-spent}
 use Rattle.pareto_search.proofs.LevelEntered.{stops-enter}
-use Rattle.pareto_search.proofs.Onward.{onward-on, onward-told}
+use Rattle.pareto_search.proofs.LearningKeepsTellings.{onward-on, onward-told}
 use Rattle.pareto_search.proofs.search.learn_from.Goals as goal
 
 pub returns-then-not-has_room-clause-refused : goal.returns-then-not-has_room-clause-refused

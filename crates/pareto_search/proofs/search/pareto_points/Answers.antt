@@ -1,13 +1,13 @@
 use Rattle.std.proofs.Common.{◌≡◌, ◌≤◌, length, ap, subst, sym, arith}
 use Rattle.std.proofs.lemmas.List.Elements.{All-contains}
 use Rattle.storage.proofs.CornerLists.{corner-distribution}
-use Rattle.storage.proofs.Enlarging.{distribution-length}
-use Rattle.explore.proofs.Searching.{corner-candidate}
-use Rattle.explore.proofs.Stepping.{candidate-evaluable}
+use Rattle.storage.proofs.EnlargingAddsRoom.{distribution-length}
+use Rattle.explore.proofs.VisitsMatchMembers.{corner-candidate}
+use Rattle.explore.proofs.StepsGiveCandidates.{candidate-evaluable}
 use Rattle.pareto_search.specs.TradeOffs.{IsTradeOff}
 use Rattle.pareto_search.specs.inside.Grounds.{IsGround}
 use Rattle.pareto_search.specs.inside.Knowledge.{IsTold, loops_in}
-use Rattle.pareto_search.proofs.Ended.{trade-off, trade-off-none}
+use Rattle.pareto_search.proofs.SearchesEndInFronts.{trade-off, trade-off-none}
 use Rattle.pareto_search.proofs.LiveEntered.{enters-none, evaluating-known, evaluating-none}
 use Rattle.pareto_search.proofs.LiveTellings.{counts-live, counts-none}
 use Rattle.pareto_search.proofs.PointCounts.{points-few}

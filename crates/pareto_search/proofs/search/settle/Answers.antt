@@ -2,7 +2,7 @@ use Rattle.std.proofs.Common.{None, ap, arith}
 use Rattle.std.proofs.lemmas.Option.{slice_get_within}
 use Rattle.std.proofs.lemmas.Result.{err_from_is_err_and}
 use Rattle.pareto_search.proofs.FoundTellings.{known-counts}
-use Rattle.pareto_search.proofs.Settled.{rate-above, settled-past}
+use Rattle.pareto_search.proofs.DueBecomesPoint.{rate-above, settled-past}
 use Rattle.pareto_search.proofs.search.settle.Goals as goal
 
 pub point_at-requires-clause-place : goal.point_at-requires-clause-place

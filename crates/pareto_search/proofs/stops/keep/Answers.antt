@@ -2,7 +2,7 @@ use Rattle.std.proofs.Common.{◌≡◌, inl, ⊎_elim, List, sym, ap, ◌∙◌
 use Rattle.std.specs.Prelude.{Contains}
 use Rattle.std.specs.declared.cmp.Ordering.TheVariants.{Less, Equal, Greater}
 use Rattle.std.proofs.lemmas.Result.{on_ok_weaker}
-use Rattle.sd_base.proofs.Containing.{contains-none}
+use Rattle.sd_base.proofs.ContainedHavePlaces.{contains-none}
 use Rattle.pareto_search.specs.declared.stops.Stop.{Stop}
 use Rattle.pareto_search.specs.inside.Stops.{against}
 use Rattle.pareto_search.proofs.StopLists.{level-none, level-put, still-less, taken-more, taken-put}

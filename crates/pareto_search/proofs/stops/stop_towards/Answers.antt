@@ -1,4 +1,4 @@
-use Rattle.sd_base.proofs.Containing.{get-contains}
+use Rattle.sd_base.proofs.ContainedHavePlaces.{get-contains}
 use Rattle.pareto_search.proofs.stops.stop_towards.Goals as goal
 
 pub unreachable-requires : goal.unreachable-requires

@@ -1,4 +1,4 @@
-use Rattle.periodic.proofs.Lines.{lines_decide}
+use Rattle.periodic.proofs.RightLinesDecide.{lines_decide}
 use Rattle.periodic.proofs.laws.lines_decide.Goals as goal
 
 pub returns : goal.returns

@@ -1,6 +1,6 @@
 use Rattle.std.proofs.Common.{arith}
 use Rattle.sd_base.specs.Net.{channel_at}
-use Rattle.periodic.proofs.Needies.{needy-now, needy-later, turn-whole, turn-takes}
+use Rattle.periodic.proofs.CodeFindsNeeds.{needy-now, needy-later, turn-whole, turn-takes}
 use Rattle.periodic.proofs.needs.first_needy.Goals as goal
 
 pub returns-then-tokens-first-clause-first : goal.returns-then-tokens-first-clause-first

@@ -1,9 +1,9 @@
 use Rattle.std.proofs.Common.{◌≡◌, ℕ, ◌+◌, ◌-◌, ◌*◌, ◌/◌, ◌<◌, length, arith}
 use Rattle.sd_base.specs.Net.{channel_at}
 use Rattle.sd_base.specs.Schedules.{IsNeed}
-use Rattle.sd_base.proofs.Wordings.{need-is_last}
+use Rattle.sd_base.proofs.LastNeedsSuffice.{need-is_last}
 use Rattle.firing.proofs.PortSums.{wanted-rest}
-use Rattle.periodic.proofs.Needies.{lack-some, turn-made, made-phases, last-is, need-fits}
+use Rattle.periodic.proofs.CodeFindsNeeds.{lack-some, turn-made, made-phases, last-is, need-fits}
 use Rattle.periodic.proofs.needs.last_need.Goals as goal
 
 pub nonzero_div-turns : goal.nonzero_div-turns

@@ -1,7 +1,7 @@
 use Rattle.std.proofs.Common.{arith}
 use Rattle.sd_base.specs.Net.{channel_at}
-use Rattle.sd_base.proofs.Sums.{total-zero}
-use Rattle.periodic.proofs.Needies.{some-phases}
+use Rattle.sd_base.proofs.SumsRepeatByTurns.{total-zero}
+use Rattle.periodic.proofs.CodeFindsNeeds.{some-phases}
 use Rattle.periodic.proofs.needs.last_short.Goals as goal
 
 pub loop-enough-init : goal.loop-enough-init

@@ -1,5 +1,5 @@
 use Rattle.std.proofs.Common.{◌*◌, length, ap, ◌∙◌, arith}
-use Rattle.sd_base.proofs.Lists.{many-more}
+use Rattle.sd_base.proofs.ElementsKeepPlaces.{many-more}
 use Rattle.periodic.specs.inside.Passes.{back_start, IsMoved}
 use Rattle.periodic.proofs.MovedBack.{back-same, row-moved, rows-more}
 use Rattle.periodic.proofs.passes.moved_starts.Goals as goal

@@ -1,5 +1,5 @@
 use Rattle.sd_base.specs.Net.{channel_at}
-use Rattle.periodic.proofs.Needies.{turn-some, in-time-decides, near-in_row}
+use Rattle.periodic.proofs.CodeFindsNeeds.{turn-some, in-time-decides, near-in_row}
 use Rattle.periodic.proofs.turns.in_time.Goals as goal
 
 pub start-requires-clause-some : goal.start-requires-clause-some

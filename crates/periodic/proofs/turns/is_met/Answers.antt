@@ -1,6 +1,6 @@
 use Rattle.std.proofs.Common.{ℕ, subst}
 use Rattle.periodic.specs.ScheduleLines.{HasTurn}
-use Rattle.periodic.proofs.Lines.{met-decides}
+use Rattle.periodic.proofs.RightLinesDecide.{met-decides}
 use Rattle.periodic.proofs.turns.is_met.Goals as goal
 
 pub returns : goal.returns

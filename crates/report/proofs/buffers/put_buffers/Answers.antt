@@ -2,7 +2,7 @@ use Rattle.std.proofs.Common.{◌≡◌, ◌∙◌, ◌<◌, ℕ, List, [], Bor,
 use Rattle.std.specs.Prelude.{codes}
 use Rattle.std.proofs.lemmas.List.{get_or-map}
 use Rattle.report.specs.StorageTexts.{buffer_on, buffer_text}
-use Rattle.report.proofs.Pieces.{text-start, between-start, text-skip, between-skip, text-more, between-then, buffers-none, buffers-some}
+use Rattle.report.proofs.PiecesAreJoined.{text-start, between-start, text-skip, between-skip, text-more, between-then, buffers-none, buffers-some}
 use Rattle.report.proofs.buffers.put_buffers.Goals as goal
 use Rattle.report.proofs.buffers.put_buffers.Goals.{in-Some+in_ok-push_str+in_ok-put_buffer, in_default}
 

@@ -5,7 +5,7 @@ use Rattle.std.specs.Prelude.{codes}
 use Rattle.std.specs.String.{string_bytes}
 use Rattle.report.specs.ListTexts.{joined, pieces_of}
 use Rattle.report.specs.StorageTexts.{buffer_on}
-use Rattle.report.proofs.Pieces.{between}
+use Rattle.report.proofs.PiecesAreJoined.{between}
 use Rattle.report.proofs.buffers.put_buffers.Given as goal
 
 abbrev pub invariant-loop-channel : goal.invariant-loop-channel

@@ -1,4 +1,4 @@
-use Rattle.report.proofs.Lowest.{lowest-is}
+use Rattle.report.proofs.LowestTermsAgree.{lowest-is}
 use Rattle.report.proofs.fractions.put_lowest.Goals as goal
 
 pub returns : goal.returns

@@ -1,7 +1,7 @@
 use Rattle.std.proofs.Common.{ℕ, List, [], Bor, refl, ap, ◌∙◌, arith, rules}
 use Rattle.std.specs.Prelude.{slice_index, codes}
 use Rattle.report.specs.LackTexts.{lack_on}
-use Rattle.report.proofs.Pieces.{text-start, between-start, text-skip, between-skip, text-more, between-then, lack-here, lacks-end}
+use Rattle.report.proofs.PiecesAreJoined.{text-start, between-start, text-skip, between-skip, text-more, between-then, lack-here, lacks-end}
 use Rattle.report.proofs.lacks.lacks_text.Goals as goal
 use Rattle.report.proofs.lacks.lacks_text.Goals.{in-Some+in_ok-push_str+in_ok-put_lack, in_default}
 

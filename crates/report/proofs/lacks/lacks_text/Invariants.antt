@@ -5,7 +5,7 @@ use Rattle.std.specs.Prelude.{slice_index, codes}
 use Rattle.std.specs.String.{string_bytes}
 use Rattle.report.specs.ListTexts.{joined, pieces_of}
 use Rattle.report.specs.LackTexts.{lack_on}
-use Rattle.report.proofs.Pieces.{between}
+use Rattle.report.proofs.PiecesAreJoined.{between}
 use Rattle.report.proofs.lacks.lacks_text.Given as goal
 
 abbrev pub invariant-loop-actor : goal.invariant-loop-actor

@@ -1,6 +1,6 @@
 use Rattle.std.proofs.Common.{◌-◌, drop, arith, take_all, length-drop}
 use Rattle.std.proofs.lemmas.Str.{IsUtf8-from_ascii}
-use Rattle.report.proofs.Spaces.{IsAscii-spaced}
+use Rattle.report.proofs.NumbersAreSpaced.{IsAscii-spaced}
 use Rattle.report.proofs.numbers.put_some.Goals as goal
 
 pub unreachable-requires : goal.unreachable-requires

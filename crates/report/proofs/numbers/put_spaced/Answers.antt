@@ -4,7 +4,7 @@ use Rattle.std.specs.List.{flat_map}
 use Rattle.std.specs.Slice.Iter.{chunks_rest}
 use Rattle.std.proofs.lemmas.List.{nil_from_length}
 use Rattle.report.specs.ScheduleTexts.{spaced}
-use Rattle.report.proofs.Spaces.{spaced-next}
+use Rattle.report.proofs.NumbersAreSpaced.{spaced-next}
 use Rattle.report.proofs.numbers.put_spaced.Goals as goal
 
 pub put_some-requires : goal.put_some-requires

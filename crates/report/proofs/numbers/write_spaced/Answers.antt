@@ -1,6 +1,6 @@
 use Rattle.std.proofs.Common.{◌≡◌, ◌+◌, ◌-◌, length, arith, refl}
 use Rattle.std.proofs.lemmas.List.{drop-set, drop_all}
-use Rattle.report.proofs.Spaces.{spaced-from}
+use Rattle.report.proofs.NumbersAreSpaced.{spaced-from}
 use Rattle.report.proofs.numbers.write_spaced.Goals as goal
 
 pub loop-i-init : goal.loop-i-init

@@ -1,6 +1,6 @@
 use Rattle.std.proofs.Common.{◌∙◌, length, sum}
 use Rattle.std.specs.String.{string_bytes}
-use Rattle.sd_base.proofs.Lists.{flat_end}
+use Rattle.sd_base.proofs.ElementsKeepPlaces.{flat_end}
 use Rattle.report.specs.SummaryTexts.{point_summary, summary_header, summary_lines}
 use Rattle.report.proofs.summaries.summary_text.Goals as goal
 

@@ -4,7 +4,7 @@ use Rattle.std.proofs.lemmas.List.{take_all}
 use Rattle.std.proofs.lemmas.Option.{slice_get-get_or}
 use Rattle.automaton.specs.declared.graph.Edge.{Edge}
 use Rattle.scenario_rate.specs.inside.ByNode.{AreByNode}
-use Rattle.scenario_rate.proofs.Listing.{listed_none, listed_step, inside_at}
+use Rattle.scenario_rate.proofs.NodesListEdges.{listed_none, listed_step, inside_at}
 use Rattle.scenario_rate.proofs.by_node.edges_by_node.Goals as goal
 
 pub loop-number-init : goal.loop-number-init

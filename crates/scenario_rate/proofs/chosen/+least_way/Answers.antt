@@ -3,8 +3,8 @@ use Rattle.std.specs.Prelude.{slice_index_or}
 use Rattle.std.proofs.lemmas.Option.{get_or_from_slice_get}
 use Rattle.automaton.specs.declared.graph.Edge.{Edge}
 use Rattle.scenario_rate.specs.inside.Choosing.{NoneNext, IsNextEdge, IsOnWay, IsLeastWay}
-use Rattle.scenario_rate.proofs.Listing.{known_at}
-use Rattle.scenario_rate.proofs.Choosing.{some_next, on_way, least_more}
+use Rattle.scenario_rate.proofs.NodesListEdges.{known_at}
+use Rattle.scenario_rate.proofs.LeastWaysExtend.{some_next, on_way, least_more}
 use Rattle.scenario_rate.proofs.chosen.+least_way.Goals as goal
 
 pub next_edge-requires-clause-known : goal.next_edge-requires-clause-known

@@ -1,8 +1,8 @@
 use Rattle.std.proofs.Common.{◌∙◌, sym, subst, arith}
 use Rattle.scenario_rate.specs.declared.by_node.End.TheVariants.{From, To}
 use Rattle.automaton.specs.SoundGraphs.{AreInside}
-use Rattle.scenario_rate.proofs.Listing.{known_at, listed_as, listed_long}
-use Rattle.scenario_rate.proofs.Choice.{distance_read, steps_long, lists_read, none_read, way_read, lists_long, chosen_read}
+use Rattle.scenario_rate.proofs.NodesListEdges.{known_at, listed_as, listed_long}
+use Rattle.scenario_rate.proofs.LeastCycleIsChosen.{distance_read, steps_long, lists_read, none_read, way_read, lists_long, chosen_read}
 use Rattle.scenario_rate.proofs.chosen.chosen_cycle.Goals as goal
 
 pub distances-requires-clause-inside : goal.distances-requires-clause-inside

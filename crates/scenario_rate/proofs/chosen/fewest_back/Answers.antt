@@ -3,7 +3,7 @@ use Rattle.std.specs.Prelude.{slice_get, slice_index, slice_index_or, Some}
 use Rattle.std.proofs.lemmas.Option.{slice_get-get_or}
 use Rattle.automaton.specs.declared.graph.Edge.{Edge}
 use Rattle.scenario_rate.specs.inside.Choosing.{steps_at, NoneBack, IsFewest}
-use Rattle.scenario_rate.proofs.Choosing.{fewest_more}
+use Rattle.scenario_rate.proofs.LeastWaysExtend.{fewest_more}
 use Rattle.scenario_rate.proofs.chosen.fewest_back.Goals as goal
 
 pub loop-number-preserved : goal.loop-number-preserved

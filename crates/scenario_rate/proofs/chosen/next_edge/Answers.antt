@@ -4,7 +4,7 @@ use Rattle.std.proofs.lemmas.Option.{slice_get-get_or}
 use Rattle.std.proofs.lemmas.Bool.{false≢true}
 use Rattle.automaton.specs.declared.graph.Edge.{Edge}
 use Rattle.scenario_rate.specs.inside.Choosing.{NoneNext, IsNextEdge}
-use Rattle.scenario_rate.proofs.Choosing.{next_more, next_pass, next-known}
+use Rattle.scenario_rate.proofs.LeastWaysExtend.{next_more, next_pass, next-known}
 use Rattle.scenario_rate.proofs.chosen.next_edge.Goals as goal
 use Rattle.scenario_rate.proofs.chosen.next_edge.Goals.{then-leads_on, else-leads_on}
 

@@ -4,7 +4,7 @@ use Rattle.std.proofs.lemmas.Option.{slice_get-get_or}
 use Rattle.automaton.specs.declared.graph.Edge.{Edge}
 use Rattle.scenario_rate.specs.inside.Choosing.{IsBrought}
 use Rattle.scenario_rate.specs.inside.Spreading.{AreBrought}
-use Rattle.scenario_rate.proofs.Spreading.{brought_none, brought_still, brought_nearer}
+use Rattle.scenario_rate.proofs.SpreadsFindDistances.{brought_none, brought_still, brought_nearer}
 use Rattle.scenario_rate.proofs.distances.bring_all.Goals as goal
 use Rattle.scenario_rate.proofs.distances.bring_all.Goals.{then-bring+in_ok-push_back, else-bring}
 

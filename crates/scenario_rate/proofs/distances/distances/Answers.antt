@@ -2,8 +2,8 @@ use Rattle.std.proofs.Common.{◌≡◌, ◌∙◌, ◌++◌, ℕ, List, Option,
 use Rattle.std.proofs.lemmas.List.{take_at}
 use Rattle.scenario_rate.specs.declared.by_node.End.TheVariants.{To}
 use Rattle.automaton.specs.SoundGraphs.{AreInside}
-use Rattle.scenario_rate.proofs.Listing.{known_at}
-use Rattle.scenario_rate.proofs.Spreading.{first_inside, start_long, start_inside, start_spread, end_spread, next_long, next_inside, next_spread, next_smaller}
+use Rattle.scenario_rate.proofs.NodesListEdges.{known_at}
+use Rattle.scenario_rate.proofs.SpreadsFindDistances.{first_inside, start_long, start_inside, start_spread, end_spread, next_long, next_inside, next_spread, next_smaller}
 use Rattle.scenario_rate.proofs.distances.distances.Goals as goal
 
 pub nodes-init : goal.nodes-init

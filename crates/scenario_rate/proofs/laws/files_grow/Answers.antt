@@ -1,5 +1,5 @@
 use Rattle.std.proofs.Common.{◌≤◌, subst}
-use Rattle.scenario_rate.proofs.Growing.{heavy}
+use Rattle.scenario_rate.proofs.WalksGrowHeavy.{heavy}
 use Rattle.scenario_rate.proofs.laws.files_grow.Goals as goal
 
 pub returns : goal.returns

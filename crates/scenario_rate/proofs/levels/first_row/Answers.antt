@@ -1,6 +1,6 @@
 use Rattle.std.proofs.Common.{◌≡◌, ◌*◌, subst, arith}
 use Rattle.scenario_rate.specs.inside.Levels.{IsFirstCell}
-use Rattle.scenario_rate.proofs.Cells.{So, first-all}
+use Rattle.scenario_rate.proofs.CellsMakeRows.{So, first-all}
 use Rattle.scenario_rate.proofs.levels.first_row.Goals as goal
 
 pub returns-clause-first : goal.returns-clause-first

@@ -1,5 +1,5 @@
 use Rattle.scenario_rate.specs.inside.Levels.{IsFirstCell}
-use Rattle.scenario_rate.proofs.Cells.{So}
+use Rattle.scenario_rate.proofs.CellsMakeRows.{So}
 use Rattle.scenario_rate.proofs.levels.first_row.Given as goal
 
 abbrev pub invariant-loop-node : goal.invariant-loop-node

@@ -3,7 +3,7 @@ use Rattle.std.specs.Prelude.{slice_get, slice_index_or}
 use Rattle.std.proofs.lemmas.Option.{slice_get-get_or}
 use Rattle.automaton.specs.declared.graph.Edge.{Edge}
 use Rattle.scenario_rate.specs.inside.Levels.{cell_at}
-use Rattle.scenario_rate.proofs.Raising.{raised-more}
+use Rattle.scenario_rate.proofs.RaisedRowsStaySmall.{raised-more}
 use Rattle.scenario_rate.proofs.levels.next_row.Goals as goal
 
 pub loop-number-preserved : goal.loop-number-preserved

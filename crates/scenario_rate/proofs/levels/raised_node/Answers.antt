@@ -1,7 +1,7 @@
 use Rattle.std.proofs.Common.{◌≡◌, ℕ, ◌≤◌, ◌<◌, List, Option, Some, None, MatchOption, length, arith}
 use Rattle.scenario_rate.specs.declared.levels.Cell.{Cell}
 use Rattle.scenario_rate.specs.inside.Levels.{cell_at, AreSettled}
-use Rattle.scenario_rate.proofs.Cells.{cell-inside}
+use Rattle.scenario_rate.proofs.CellsMakeRows.{cell-inside}
 use Rattle.scenario_rate.proofs.levels.raised_node.Goals as goal
 
 -- no node so far is no node at all, once all were looked at

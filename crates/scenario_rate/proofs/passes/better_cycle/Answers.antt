@@ -2,8 +2,8 @@ use Rattle.std.proofs.Common.{ℕ, ◌-◌, ◌≤◌, List, take, drop, ap, sym
 use Rattle.automaton.specs.declared.graph.Edge.{Edge}
 use Rattle.automaton.specs.CriticalCycles.{weights}
 use Rattle.scenario_rate.specs.inside.Searches.{AreNumbers}
-use Rattle.scenario_rate.proofs.Closing.{numbers}
-use Rattle.scenario_rate.proofs.Looping.{Loops, IsLoop, loops, rated}
+use Rattle.scenario_rate.proofs.LongWalksClose.{numbers}
+use Rattle.scenario_rate.proofs.RaisedWalksLoop.{Loops, IsLoop, loops, rated}
 use Rattle.scenario_rate.proofs.passes.better_cycle.Goals as goal
 
 pub first_return-requires : goal.first_return-requires

@@ -1,7 +1,7 @@
 use Rattle.std.proofs.Common.{subst}
 use Rattle.scenario_rate.specs.declared.passes.Turn.{Turn}
 use Rattle.scenario_rate.specs.inside.Bests.{IsTurn}
-use Rattle.scenario_rate.proofs.Never.{never}
+use Rattle.scenario_rate.proofs.TimelessNeverSettles.{never}
 use Rattle.scenario_rate.proofs.passes.first_cycle.Goals as goal
 
 pub unreachable-requires : goal.unreachable-requires

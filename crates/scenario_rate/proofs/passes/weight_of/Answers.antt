@@ -3,7 +3,7 @@ use Rattle.std.specs.Prelude.{slice_get, slice_index_or}
 use Rattle.std.proofs.lemmas.Option.{slice_get-get_or}
 use Rattle.automaton.specs.declared.graph.Edge.{Edge}
 use Rattle.automaton.specs.CriticalCycles.{weights}
-use Rattle.scenario_rate.proofs.Looping.{taken-weight}
+use Rattle.scenario_rate.proofs.RaisedWalksLoop.{taken-weight}
 use Rattle.scenario_rate.proofs.passes.weight_of.Goals as goal
 
 pub loop-number-preserved : goal.loop-number-preserved

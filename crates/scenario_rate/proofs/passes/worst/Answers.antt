@@ -2,7 +2,7 @@ use Rattle.std.proofs.Common.{subst}
 use Rattle.scenario_rate.specs.declared.passes.Turn.{Turn}
 use Rattle.scenario_rate.specs.inside.Bests.{IsTurn}
 use Rattle.scenario_rate.specs.Answers.{potential_at}
-use Rattle.scenario_rate.proofs.Ending.{room-falls}
+use Rattle.scenario_rate.proofs.RatesStopFalling.{room-falls}
 use Rattle.scenario_rate.proofs.passes.worst.Goals as goal
 
 pub returns-in-Settled-clause-shows : goal.returns-in-Settled-clause-shows

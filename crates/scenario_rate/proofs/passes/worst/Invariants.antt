@@ -1,5 +1,5 @@
 use Rattle.scenario_rate.specs.inside.Bests.{IsBest}
-use Rattle.scenario_rate.proofs.Ending.{room}
+use Rattle.scenario_rate.proofs.RatesStopFalling.{room}
 use Rattle.scenario_rate.proofs.passes.worst.Given as goal
 
 abbrev pub invariant-passes : goal.invariant-passes

@@ -5,7 +5,7 @@ use Rattle.std.proofs.lemmas.Option.{slice_get-get_or}
 use Rattle.automaton.specs.declared.graph.Edge.{Edge}
 use Rattle.scenario_rate.specs.inside.Levels.{cell_at}
 use Rattle.scenario_rate.specs.inside.Choosing.{IsEven}
-use Rattle.scenario_rate.proofs.Tightness.{tight_more, tight_pass}
+use Rattle.scenario_rate.proofs.TightWalksAreCritical.{tight_more, tight_pass}
 use Rattle.scenario_rate.proofs.tight.tight_edges.Goals as goal
 use Rattle.scenario_rate.proofs.tight.tight_edges.Goals.{then-is_even+in_ok-push, else-is_even}
 

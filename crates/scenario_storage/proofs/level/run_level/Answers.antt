@@ -2,11 +2,11 @@ use Rattle.std.proofs.Common.{◌≡◌, ◌++◌, List, All, length, map, rever
 use Rattle.std.specs.Prelude.{slice_index_or}
 use Rattle.storage.specs.declared.distribution.Distribution.{Distribution}
 use Rattle.fanout.specs.JobRuns.{EachRan}
-use Rattle.fanout.proofs.Running.{all-ran}
+use Rattle.fanout.proofs.RunJobsEnter.{all-ran}
 use Rattle.fanout.proofs.TaskLists.{slice-back, map-same, turned-back, all-reverse}
 use Rattle.scenario_storage.specs.declared.task.Task.{Task}
 use Rattle.scenario_storage.specs.inside.Levels.{HasRun, IsAnswered, IsFresh}
-use Rattle.scenario_storage.proofs.Tasks.{done-from, ready-from}
+use Rattle.scenario_storage.proofs.TasksGetDone.{done-from, ready-from}
 use Rattle.scenario_storage.proofs.level.run_level.Goals as goal
 
 pub all-requires-after_bounds : goal.all-requires-after_bounds

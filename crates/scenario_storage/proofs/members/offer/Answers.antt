@@ -3,7 +3,7 @@ use Rattle.std.specs.Prelude.{All}
 use Rattle.std.proofs.lemmas.Result.{on_ok_weaker}
 use Rattle.scenario_storage.specs.declared.point.ScenarioPoint.{ScenarioPoint}
 use Rattle.scenario_storage.specs.inside.Points.{IsTaken}
-use Rattle.scenario_storage.proofs.Knowing.{keeps-as, kept-known, late-all, none-known}
+use Rattle.scenario_storage.proofs.RatingsStayKnown.{keeps-as, kept-known, late-all, none-known}
 use Rattle.scenario_storage.proofs.members.offer.Goals as goal
 
 pub take_point-requires-clause-rising : goal.take_point-requires-clause-rising
@@ -18,7 +18,7 @@ pub returns-in-Some-clause-known : goal.returns-in-Some-clause-known
 returns-in-Some-clause-known c =
     on_ok_weaker {P = (IsTaken c.point_of.result c.args.points.now.items c.take_point.new.points.items)} c.take_point.result
     (λ taken file limit es best is.
-    kept-known file limit es best c.args.total c.args.capacities c.args.rated c.args.points.now.items is c.in-Some.evidence c.in-Some.is c.point_of.result c.point_of.ensures c.take_point.new.points.items taken)
+    kept-known file limit es best c.args.total c.args.capacities c.args.rated c.args.points.now.items is c.in-Some.witness c.in-Some.is c.point_of.result c.point_of.ensures c.take_point.new.points.items taken)
     c.take_point.ensures
 
 pub returns-in-Some-clause-keeps : goal.returns-in-Some-clause-keeps

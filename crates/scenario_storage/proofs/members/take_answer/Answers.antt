@@ -1,7 +1,7 @@
 use Rattle.std.proofs.Common.{◌+◌, ◌∷◌}
-use Rattle.sd_base.proofs.Containing.{contains-here}
-use Rattle.scenario_storage.proofs.Searchable.{searchable}
-use Rattle.scenario_storage.proofs.Turning.{search-candidate}
+use Rattle.sd_base.proofs.ContainedHavePlaces.{contains-here}
+use Rattle.scenario_storage.proofs.FilesAllowSearch.{searchable}
+use Rattle.scenario_storage.proofs.TurnsKeepSearch.{search-candidate}
 use Rattle.scenario_storage.proofs.members.take_answer.Goals as goal
 
 pub take_in-requires-clause-rated : goal.take_in-requires-clause-rated

@@ -3,8 +3,8 @@ use Rattle.std.proofs.lemmas.Result.{err_from_is_err_and}
 use Rattle.levels.specs.Visits.{led_by, visits_of}
 use Rattle.levels.specs.Frontiers.{IsFrontier, IsSpent, Rises}
 use Rattle.bounded_scenarios.specs.SharedChannels.{shared_channels}
-use Rattle.scenario_storage.proofs.Searchable.{searchable}
-use Rattle.scenario_storage.proofs.Turning.{its-known, its-rises, its-within, off-same, offered, spent-refusal, taken-in-of}
+use Rattle.scenario_storage.proofs.FilesAllowSearch.{searchable}
+use Rattle.scenario_storage.proofs.TurnsKeepSearch.{its-known, its-rises, its-within, off-same, offered, spent-refusal, taken-in-of}
 use Rattle.scenario_storage.proofs.members.take_in.Goals as goal
 
 pub lead_on-requires-clause-channels : goal.lead_on-requires-clause-channels

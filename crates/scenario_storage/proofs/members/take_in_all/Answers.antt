@@ -4,8 +4,8 @@ use Rattle.std.proofs.lemmas.Iterator.Consumers.{YieldsList-end, YieldsList-turn
 use Rattle.std.proofs.lemmas.Iterator.Adapters.{YieldsList-from_vec}
 use Rattle.levels.specs.Visits.{visited, visits_of}
 use Rattle.scenario_storage.specs.inside.Searches.{IsAnswerOf, IsSearch, IsSearchOf, answered_of}
-use Rattle.scenario_storage.proofs.Knowing.{best-kept, keeps-on}
-use Rattle.scenario_storage.proofs.Turning.{rest-more}
+use Rattle.scenario_storage.proofs.RatingsStayKnown.{best-kept, keeps-on}
+use Rattle.scenario_storage.proofs.TurnsKeepSearch.{rest-more}
 use Rattle.scenario_storage.proofs.members.take_in_all.Goals as goal
 
 pub take_answer-requires-clause-answer : goal.take_answer-requires-clause-answer

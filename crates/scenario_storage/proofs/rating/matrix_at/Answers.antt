@@ -1,8 +1,8 @@
 use Rattle.std.proofs.Common.{◌≡◌, ap, ◌∙◌}
 use Rattle.sd_base.specs.declared.tables.ScenarioFile.{ScenarioFile}
 use Rattle.bounded_scenarios.specs.BoundedFiles.{bounded_file, bounded_graph}
-use Rattle.scenario_storage.proofs.Measuring.{answers-as, gives-as, matrix-answer, scenario-of}
-use Rattle.scenario_storage.proofs.Searchable.{can-measure}
+use Rattle.scenario_storage.proofs.MatricesAreMeasured.{answers-as, gives-as, matrix-answer, scenario-of}
+use Rattle.scenario_storage.proofs.FilesAllowSearch.{can-measure}
 use Rattle.scenario_storage.proofs.rating.matrix_at.Goals as goal
 
 pub matrix_of-requires : goal.matrix_of-requires

@@ -3,8 +3,8 @@ use Rattle.std.proofs.lemmas.List.{length-map}
 use Rattle.sd_base.specs.declared.tables.ScenarioFile.{ScenarioFile}
 use Rattle.automaton.specs.TimedGraphs.{IsRun}
 use Rattle.bounded_scenarios.specs.BoundedFiles.{bounded_scenario}
-use Rattle.scenario_storage.proofs.Measuring.{AreKeptTo, kept-all, kept-next, runs-before}
-use Rattle.scenario_storage.proofs.Searchable.{can-measure}
+use Rattle.scenario_storage.proofs.MatricesAreMeasured.{AreKeptTo, kept-all, kept-next, runs-before}
+use Rattle.scenario_storage.proofs.FilesAllowSearch.{can-measure}
 use Rattle.scenario_storage.proofs.rating.measure.Goals as goal
 
 pub matrix_at-requires-clause-scenario : goal.matrix_at-requires-clause-scenario

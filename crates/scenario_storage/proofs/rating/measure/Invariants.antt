@@ -1,4 +1,4 @@
-use Rattle.scenario_storage.proofs.Measuring.{AreKeptTo}
+use Rattle.scenario_storage.proofs.MatricesAreMeasured.{AreKeptTo}
 use Rattle.scenario_storage.proofs.rating.measure.Given as goal
 
 abbrev pub invariant-loop-scenario : goal.invariant-loop-scenario

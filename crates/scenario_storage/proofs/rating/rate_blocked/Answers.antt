@@ -1,7 +1,7 @@
 use Rattle.std.proofs.Common.{refl, arith}
 use Rattle.bounded_scenarios.proofs.BlockedMembers.{blocked-bounds}
-use Rattle.scenario_storage.proofs.Listing.{one-factor}
-use Rattle.scenario_storage.proofs.Rates.{blocked-rated}
+use Rattle.scenario_storage.proofs.ToldNumbersAreListed.{one-factor}
+use Rattle.scenario_storage.proofs.EvaluationsShowRates.{blocked-rated}
 use Rattle.scenario_storage.proofs.rating.rate_blocked.Goals as goal
 
 pub returns : goal.returns

@@ -4,13 +4,13 @@ use Rattle.sd_base.specs.declared.tables.ScenarioFile.{ScenarioFile}
 use Rattle.bounded_scenarios.specs.BoundedFiles.{bounded_file}
 use Rattle.bounded_scenarios.proofs.LiveMembers.{live-bounds}
 use Rattle.bounded_scenarios.proofs.SpacelessCycles.{spaceless-bounds}
-use Rattle.scenario_storage.specs.declared.rated.Evidence.{Evidence}
+use Rattle.scenario_storage.specs.declared.rated.Witness.{Witness}
 use Rattle.scenario_storage.specs.inside.Levels.{Shows}
 use Rattle.scenario_storage.specs.inside.Shown.{AreShownLive}
-use Rattle.scenario_storage.proofs.Cycles.{graph-nodes, graph-tokens}
-use Rattle.scenario_storage.proofs.Listing.{path-within}
-use Rattle.scenario_storage.proofs.Rates.{kept-shows, live-rated}
-use Rattle.scenario_storage.proofs.Searchable.{can-measure}
+use Rattle.scenario_storage.proofs.CycleEdgesAreShown.{graph-nodes, graph-tokens}
+use Rattle.scenario_storage.proofs.ToldNumbersAreListed.{path-within}
+use Rattle.scenario_storage.proofs.EvaluationsShowRates.{kept-shows, live-rated}
+use Rattle.scenario_storage.proofs.FilesAllowSearch.{can-measure}
 use Rattle.scenario_storage.proofs.rating.rate_live.Goals as goal
 
 pub worst-requires-clause-sound : goal.worst-requires-clause-sound
@@ -42,7 +42,7 @@ returns c =
     let g = c.in_ok-graph.ensures.graph in
     let worst = c.in_ok-worst.worst in
     let w = c.in_ok-worst.ensures in
-    let kept : Evidence = record { shared = c.args.bounded.shared; graph = c.in_ok-graph.graph; worst = c.in_ok-worst.worst } in
+    let kept : Witness = record { shared = c.args.bounded.shared; graph = c.in_ok-graph.graph; worst = c.in_ok-worst.worst } in
     let shows : Shows file ds c.in_ok-worst.worst.rate (record { shared = c.args.bounded.shared; graph = c.in_ok-graph.graph; worst = c.in_ok-worst.worst }) = record {
       shared_rows = ap (λ (f : ScenarioFile). f.shared) c.requires.bounded;
       timed = g.timed;

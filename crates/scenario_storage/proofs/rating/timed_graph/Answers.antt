@@ -3,8 +3,8 @@ use Rattle.sd_base.specs.declared.limits.TheConstants.{NODES}
 use Rattle.sd_base.specs.declared.tables.ScenarioFile.{ScenarioFile}
 use Rattle.sd_base.specs.Scenarios.{LeadsOn, shared_count}
 use Rattle.automaton.specs.TimedGraphs.{AreSized}
-use Rattle.scenario_storage.proofs.Measuring.{are-sized, too-many}
-use Rattle.scenario_storage.proofs.Searchable.{can-measure}
+use Rattle.scenario_storage.proofs.MatricesAreMeasured.{are-sized, too-many}
+use Rattle.scenario_storage.proofs.FilesAllowSearch.{can-measure}
 use Rattle.scenario_storage.proofs.rating.timed_graph.Goals as goal
 
 pub product-requires-clause-sized : goal.product-requires-clause-sized

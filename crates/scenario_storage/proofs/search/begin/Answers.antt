@@ -1,6 +1,6 @@
 use Rattle.std.proofs.Common.{refl}
 use Rattle.bounded_scenarios.specs.SharedChannels.{shared_channels}
-use Rattle.scenario_storage.proofs.Turning.{begun}
+use Rattle.scenario_storage.proofs.TurnsKeepSearch.{begun}
 use Rattle.scenario_storage.proofs.search.begin.Goals as goal
 
 pub channel_steps-requires : goal.channel_steps-requires

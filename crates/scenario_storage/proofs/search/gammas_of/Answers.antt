@@ -1,7 +1,7 @@
 use Rattle.std.proofs.Common.{◌≡◌, ◌+◌, List, length, sym, ap, subst, arith}
 use Rattle.sd_base.specs.declared.tables.ScenarioRow.{ScenarioRow}
-use Rattle.sd_base.proofs.Lists.{item-at}
-use Rattle.scenario_storage.proofs.Gammas.{AreRoundsTo, rounds-all, rounds-more}
+use Rattle.sd_base.proofs.ElementsKeepPlaces.{item-at}
+use Rattle.scenario_storage.proofs.ScenariosHaveRounds.{AreRoundsTo, rounds-all, rounds-more}
 use Rattle.scenario_storage.proofs.search.gammas_of.Goals as goal
 
 pub gamma_of-requires-clause-rules : goal.gamma_of-requires-clause-rules

@@ -1,4 +1,4 @@
-use Rattle.scenario_storage.proofs.Gammas.{AreRoundsTo}
+use Rattle.scenario_storage.proofs.ScenariosHaveRounds.{AreRoundsTo}
 use Rattle.scenario_storage.proofs.search.gammas_of.Given as goal
 
 abbrev pub invariant-loop-scenario : goal.invariant-loop-scenario

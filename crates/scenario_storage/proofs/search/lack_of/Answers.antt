@@ -1,4 +1,4 @@
-use Rattle.scenario_storage.proofs.Gammas.{never-refused}
+use Rattle.scenario_storage.proofs.ScenariosHaveRounds.{never-refused}
 use Rattle.scenario_storage.proofs.search.lack_of.Goals as goal
 
 pub unreachable-requires : goal.unreachable-requires

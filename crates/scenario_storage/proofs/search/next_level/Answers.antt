@@ -1,6 +1,6 @@
 use Rattle.std.proofs.Common.{refl}
-use Rattle.scenario_storage.proofs.Searchable.{searchable}
-use Rattle.scenario_storage.proofs.Turning.{next-more, next-turn}
+use Rattle.scenario_storage.proofs.FilesAllowSearch.{searchable}
+use Rattle.scenario_storage.proofs.TurnsKeepSearch.{next-more, next-turn}
 use Rattle.scenario_storage.proofs.search.next_level.Goals as goal
 
 pub returns-clause-level : goal.returns-clause-level

@@ -3,8 +3,8 @@ use Rattle.levels.specs.Entrances.{EnterByLevels}
 use Rattle.bounded_scenarios.specs.SharedChannels.{shared_channels}
 use Rattle.scenario_storage.specs.Entrances.{AreEntered}
 use Rattle.scenario_storage.specs.ScenarioPoints.{AreScenarioPoints}
-use Rattle.scenario_storage.proofs.Ending.{are-entered, points-are}
-use Rattle.scenario_storage.proofs.Searchable.{searchable}
+use Rattle.scenario_storage.proofs.EndedPointsAreFront.{are-entered, points-are}
+use Rattle.scenario_storage.proofs.FilesAllowSearch.{searchable}
 use Rattle.scenario_storage.proofs.search.scenario_points.Goals as goal
 
 pub gammas_of-requires-clause-rules : goal.gammas_of-requires-clause-rules

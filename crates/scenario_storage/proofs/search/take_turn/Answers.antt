@@ -3,8 +3,8 @@ use Rattle.levels.specs.Frontiers.{distributions_of}
 use Rattle.scenario_storage.specs.declared.point.ScenarioPoint.{ScenarioPoint}
 use Rattle.scenario_storage.specs.inside.Points.{IsBestOf}
 use Rattle.scenario_storage.specs.inside.Searches.{IsSearch, IsSearchOf}
-use Rattle.scenario_storage.proofs.Entering.{turn-entered}
-use Rattle.scenario_storage.proofs.Turning.{all-within, answered-level, best-before, level-answers}
+use Rattle.scenario_storage.proofs.LevelsHaveEntered.{turn-entered}
+use Rattle.scenario_storage.proofs.TurnsKeepSearch.{all-within, answered-level, best-before, level-answers}
 use Rattle.scenario_storage.proofs.search.take_turn.Goals as goal
 
 pub run_level-requires-clause-fits : goal.run_level-requires-clause-fits

@@ -2,8 +2,8 @@ use Rattle.std.proofs.Common.{◌≡◌, ◌+◌, ◌<◌, ◌++◌, sym, ap, su
 use Rattle.levels.specs.declared.levels.Bounds.{Bounds}
 use Rattle.levels.specs.Frontiers.{distributions_of}
 use Rattle.scenario_storage.specs.inside.Searches.{IsEndedWith, IsTurnAfter, taken_off}
-use Rattle.scenario_storage.proofs.Searchable.{searchable}
-use Rattle.scenario_storage.proofs.Turning.{topped-of}
+use Rattle.scenario_storage.proofs.FilesAllowSearch.{searchable}
+use Rattle.scenario_storage.proofs.TurnsKeepSearch.{topped-of}
 use Rattle.scenario_storage.proofs.search.take_turns.Goals as goal
 
 pub next_level-requires-clause-stands : goal.next_level-requires-clause-stands

@@ -6,7 +6,7 @@ use Rattle.std.proofs.lemmas.Option.{slice_get-get_or}
 use Rattle.automaton.specs.declared.graph.Edge.{Edge}
 use Rattle.entry_ways.specs.declared.marking.EntryPlace.{EntryPlace}
 use Rattle.scenario_storage.specs.inside.Shown.{IsEntryIn, place_of, scenario_at}
-use Rattle.scenario_storage.proofs.Listing.{entries-more, entries-other}
+use Rattle.scenario_storage.proofs.ToldNumbersAreListed.{entries-more, entries-other}
 use Rattle.scenario_storage.proofs.shown.entries_of.Goals as goal
 use Rattle.scenario_storage.proofs.shown.entries_of.Goals.{then-scenario_of-scenario+in_ok-push, else-scenario_of-scenario}
 

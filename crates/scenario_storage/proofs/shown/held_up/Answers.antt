@@ -1,8 +1,8 @@
 use Rattle.std.proofs.Common.{◌≡◌, ◌+◌, ◌++◌, ◌∷◌, ◌<◌, [], ℕ, List, slice_index, sym, ◌∙◌, subst, true≢false, arith, rules}
 use Rattle.std.specs.Prelude.{◌↔◌, Contains}
 use Rattle.scenario_storage.specs.inside.Shown.{IsWaitedFor}
-use Rattle.sd_base.proofs.Containing.{listed-more, listed-other}
-use Rattle.scenario_storage.proofs.Listing.{listed-all}
+use Rattle.sd_base.proofs.ContainedHavePlaces.{listed-more, listed-other}
+use Rattle.scenario_storage.proofs.ToldNumbersAreListed.{listed-all}
 use Rattle.scenario_storage.proofs.SpaceNumbers.{has-place}
 use Rattle.scenario_storage.proofs.shown.held_up.Goals as goal
 use Rattle.scenario_storage.proofs.shown.held_up.Goals.{then-waits_for+in_ok-push, else-waits_for}

@@ -1,6 +1,6 @@
 use Rattle.std.proofs.Common.{◌≡◌, ◌+◌, ◌++◌, ◌∷◌, ◌<◌, [], ℕ, List, true, false, sym, ◌∙◌, subst, true≢false, rules}
 use Rattle.std.specs.Prelude.{◌↔◌, Contains, slice_index_or}
-use Rattle.sd_base.proofs.Containing.{listed-more, listed-other}
+use Rattle.sd_base.proofs.ContainedHavePlaces.{listed-more, listed-other}
 use Rattle.scenario_storage.proofs.shown.listed.Goals as goal
 use Rattle.scenario_storage.proofs.shown.listed.Goals.{then-marks-place+in_ok-push, else-marks-place}
 

@@ -10,9 +10,9 @@ use Rattle.token_matrix.specs.Stamps.{first_of}
 use Rattle.entry_ways.specs.WayMarks.{AreWayMarks, HasWay}
 use Rattle.bounded_scenarios.specs.BoundedFiles.{bounded_file, bounded_graph}
 use Rattle.scenario_storage.specs.inside.Shown.{AreSpacesWithin, HasSpace, spaces_from}
-use Rattle.scenario_storage.proofs.Few.{channels-few, its-shares, long-as, shared-few, spaces-in_graph}
-use Rattle.scenario_storage.proofs.Measuring.{gives-as, moved-back, moved-to}
-use Rattle.scenario_storage.proofs.Searchable.{can-measure}
+use Rattle.scenario_storage.proofs.SharedChannelsAreFew.{channels-few, its-shares, long-as, shared-few, spaces-in_graph}
+use Rattle.scenario_storage.proofs.MatricesAreMeasured.{gives-as, moved-back, moved-to}
+use Rattle.scenario_storage.proofs.FilesAllowSearch.{can-measure}
 use Rattle.scenario_storage.proofs.SpaceMarks.{empty-marks, none-true, space-marks}
 use Rattle.scenario_storage.proofs.SpaceNumbers.{spaces-long}
 use Rattle.scenario_storage.proofs.shown.mark_scenario.Goals as goal

@@ -10,10 +10,10 @@ use Rattle.token_matrix.specs.EntryWays.{CarriesStamps}
 use Rattle.bounded_scenarios.specs.BoundedFiles.{bounded_file, bounded_graph, bounded_scenario}
 use Rattle.bounded_scenarios.specs.StorageRates.{bounded_net}
 use Rattle.scenario_storage.specs.inside.Shown.{AreSpacesWithin, spaces_from}
-use Rattle.scenario_storage.proofs.Few.{channels-few, its-shares, long-as, shared-few, spaces-in_net}
-use Rattle.scenario_storage.proofs.Measuring.{moved-to}
-use Rattle.scenario_storage.proofs.Rates.{shown-as}
-use Rattle.scenario_storage.proofs.Searchable.{can-measure}
+use Rattle.scenario_storage.proofs.SharedChannelsAreFew.{channels-few, its-shares, long-as, shared-few, spaces-in_net}
+use Rattle.scenario_storage.proofs.MatricesAreMeasured.{moved-to}
+use Rattle.scenario_storage.proofs.EvaluationsShowRates.{shown-as}
+use Rattle.scenario_storage.proofs.FilesAllowSearch.{can-measure}
 use Rattle.scenario_storage.proofs.SpaceNumbers.{spaces-long}
 use Rattle.scenario_storage.proofs.shown.shown_by_counts.Goals as goal
 

@@ -6,11 +6,11 @@ use Rattle.fanout.proofs.TaskLists.{slice-back}
 use Rattle.entry_ways.specs.declared.marking.EntryPlace.{EntryPlace}
 use Rattle.bounded_scenarios.specs.BoundedFiles.{bounded_file}
 use Rattle.scenario_storage.specs.inside.Shown.{AreSpaceMarks, BeginAtStates, HaveWays, IsEntryIn}
-use Rattle.scenario_storage.proofs.Cycles.{graph-tokens, shown-all, ways-ready}
-use Rattle.scenario_storage.proofs.Few.{its-shares, shared-few}
-use Rattle.scenario_storage.proofs.Marking.{AreMarkedTo, begins-at, marked-more}
-use Rattle.scenario_storage.proofs.Measuring.{scenario-of}
-use Rattle.scenario_storage.proofs.Searchable.{can-measure}
+use Rattle.scenario_storage.proofs.CycleEdgesAreShown.{graph-tokens, shown-all, ways-ready}
+use Rattle.scenario_storage.proofs.SharedChannelsAreFew.{its-shares, shared-few}
+use Rattle.scenario_storage.proofs.LongestWaysAreMarked.{AreMarkedTo, begins-at, marked-more}
+use Rattle.scenario_storage.proofs.MatricesAreMeasured.{scenario-of}
+use Rattle.scenario_storage.proofs.FilesAllowSearch.{can-measure}
 use Rattle.scenario_storage.proofs.shown.shown_by_cycle.Goals as goal
 
 pub entries_of-requires-clause-tokens : goal.entries_of-requires-clause-tokens

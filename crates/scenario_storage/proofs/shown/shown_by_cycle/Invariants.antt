@@ -1,4 +1,4 @@
-use Rattle.scenario_storage.proofs.Marking.{AreMarkedTo}
+use Rattle.scenario_storage.proofs.LongestWaysAreMarked.{AreMarkedTo}
 use Rattle.scenario_storage.proofs.shown.shown_by_cycle.Given as goal
 
 abbrev pub invariant-loop-scenario : goal.invariant-loop-scenario

@@ -1,6 +1,6 @@
-use Rattle.sd_base.proofs.Parts.{regular}
-use Rattle.sd_base.proofs.Alike.{since-then, equal-futures}
-use Rattle.sd_base.proofs.Returns.{rounds, repeats-rounds, at-least_one}
+use Rattle.sd_base.proofs.LawfulIsRegular.{regular}
+use Rattle.sd_base.proofs.EqualShapesRepeat.{since-then, equal-futures}
+use Rattle.sd_base.proofs.LoopsSpanRounds.{rounds, repeats-rounds, at-least_one}
 use Rattle.sd_base.proofs.futures.equal_shapes_have_equal_futures.Goals as goal
 
 pub returns-clause-futures : goal.returns-clause-futures

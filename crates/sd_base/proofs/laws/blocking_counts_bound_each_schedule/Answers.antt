@@ -1,6 +1,6 @@
-use Rattle.sd_base.proofs.Parts.{timed, wired, balanced}
-use Rattle.sd_base.proofs.Blocking.{blocked-bounds, live-unblocked}
-use Rattle.sd_base.proofs.Ends.{live_or_blocked}
+use Rattle.sd_base.proofs.LawfulIsRegular.{timed, wired, balanced}
+use Rattle.sd_base.proofs.ClosedCountsBoundRuns.{blocked-bounds, live-unblocked}
+use Rattle.sd_base.proofs.FiringOrdersEnd.{live_or_blocked}
 use Rattle.sd_base.proofs.laws.blocking_counts_bound_each_schedule.Goals as goal
 
 pub returns-clause-bound : goal.returns-clause-bound

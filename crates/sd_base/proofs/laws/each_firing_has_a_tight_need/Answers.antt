@@ -1,5 +1,5 @@
-use Rattle.sd_base.proofs.Parts.{regular}
-use Rattle.sd_base.proofs.Tight.{tight}
+use Rattle.sd_base.proofs.LawfulIsRegular.{regular}
+use Rattle.sd_base.proofs.StartsMeetEnds.{tight}
 use Rattle.sd_base.proofs.laws.each_firing_has_a_tight_need.Goals as goal
 
 pub returns : goal.returns

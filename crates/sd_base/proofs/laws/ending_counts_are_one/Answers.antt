@@ -1,5 +1,5 @@
-use Rattle.sd_base.proofs.Parts.{wired}
-use Rattle.sd_base.proofs.Blocking.{one_end, end-least}
+use Rattle.sd_base.proofs.LawfulIsRegular.{wired}
+use Rattle.sd_base.proofs.ClosedCountsBoundRuns.{one_end, end-least}
 use Rattle.sd_base.proofs.laws.ending_counts_are_one.Goals as goal
 
 pub returns-clause-one : goal.returns-clause-one

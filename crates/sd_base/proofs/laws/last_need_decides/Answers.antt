@@ -1,5 +1,5 @@
-use Rattle.sd_base.proofs.Parts.{regular}
-use Rattle.sd_base.proofs.Wordings.{last-is_need, need-is_last, to-last, from-last}
+use Rattle.sd_base.proofs.LawfulIsRegular.{regular}
+use Rattle.sd_base.proofs.LastNeedsSuffice.{last-is_need, need-is_last, to-last, from-last}
 use Rattle.sd_base.proofs.laws.last_need_decides.Goals as goal
 
 pub returns-clause-number : goal.returns-clause-number

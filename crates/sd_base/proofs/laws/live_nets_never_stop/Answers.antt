@@ -1,5 +1,5 @@
-use Rattle.sd_base.proofs.Parts.{wired, balanced}
-use Rattle.sd_base.proofs.Liveness.{live-never-stuck}
+use Rattle.sd_base.proofs.LawfulIsRegular.{wired, balanced}
+use Rattle.sd_base.proofs.LiveNetsGoOn.{live-never-stuck}
 use Rattle.sd_base.proofs.laws.live_nets_never_stop.Goals as goal
 
 pub returns : goal.returns

@@ -1,6 +1,6 @@
-use Rattle.sd_base.proofs.Parts.{regular}
-use Rattle.sd_base.proofs.Existence.{earliest-is}
-use Rattle.sd_base.proofs.Admissibles.{earliest-equal}
+use Rattle.sd_base.proofs.LawfulIsRegular.{regular}
+use Rattle.sd_base.proofs.EarliestExists.{earliest-is}
+use Rattle.sd_base.proofs.FiringsKeepOrder.{earliest-equal}
 use Rattle.sd_base.proofs.laws.self_timed_is_earliest.Goals as goal
 
 pub returns-clause-exists : goal.returns-clause-exists

@@ -1,6 +1,6 @@
 use Rattle.std.proofs.Common.{ℕ, subst}
 use Rattle.std.specs.Int.{IsGcd}
-use Rattle.sd_base.proofs.Divisors.{gcd_below}
+use Rattle.sd_base.proofs.LeastMultiplesDivide.{gcd_below}
 use Rattle.sd_base.proofs.numbers.gcd.Goals as goal
 
 pub returns : goal.returns

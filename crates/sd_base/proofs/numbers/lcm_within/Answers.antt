@@ -1,5 +1,5 @@
 use Rattle.std.proofs.Common.{arith}
-use Rattle.sd_base.proofs.Divisors.{gcd_pos, lcm_from_gcd, lcm_above, lcm_fits}
+use Rattle.sd_base.proofs.LeastMultiplesDivide.{gcd_pos, lcm_from_gcd, lcm_above, lcm_fits}
 use Rattle.sd_base.proofs.numbers.lcm_within.Goals as goal
 
 pub nonzero_div-part : goal.nonzero_div-part

@@ -1,7 +1,7 @@
 use Rattle.std.proofs.Common.{arith, refl}
-use Rattle.std.proofs.lemmas.Result.{err_from_is_err_and}
+use Rattle.std.proofs.lemmas.Result.{IfOk-weaker, err_from_is_err_and}
 use Rattle.sd_steps.specs.Askings.{asking}
-use Rattle.sd_command.proofs.command_lemmas.Goings.{step_stops, goes_on}
+use Rattle.sd_command.proofs.command_lemmas.CommandsFollowSteps.{step_stops, goes_on}
 use Rattle.sd_command.proofs.requests.answer_of.Goals as goal
 
 pub returns-in_err-request-clause-answers : goal.returns-in_err-request-clause-answers
@@ -21,3 +21,6 @@ returns-clause-answers g c = record {
   telling = c.command_answer.ensures.answers.telling;
   grows = c.command_answer.ensures.answers.grows;
 }
+
+pub returns-clause-entered : goal.returns-clause-entered
+returns-clause-entered g c = IfOk-weaker c.command_answer.result _ _ (λ answer is. (c.in_ok-request.request, c.in_ok-request.ensures.does, is)) c.command_answer.ensures.entered

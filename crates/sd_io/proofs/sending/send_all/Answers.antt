@@ -1,6 +1,6 @@
 use Rattle.std.proofs.Common.{◌≤◌, ◌-◌, ℕ, length, arith, ◌∙◌}
 use Rattle.std.proofs.lemmas.List.{length-take, length-drop}
-use Rattle.sd_io.proofs.Sent.{sent_more}
+use Rattle.sd_io.proofs.PiecesJoinToTexts.{sent_more}
 use Rattle.sd_io.proofs.sending.send_all.Goals as goal
 
 pub sending-preserved : goal.sending-preserved

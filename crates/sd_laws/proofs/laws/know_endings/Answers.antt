@@ -1,10 +1,10 @@
 use Rattle.sd_base.proofs.FileNets.{widened}
 use Rattle.sd_laws.specs.Endings.{DueIsOne}
 use Rattle.sd_laws.proofs.SharedSteps.{FileLaws}
-use Rattle.sd_laws.proofs.Commands.{course_decides}
+use Rattle.sd_laws.proofs.WordsDecideCommands.{course_decides}
 use Rattle.sd_laws.proofs.OneWorst.{ScenarioLaws}
-use Rattle.sd_laws.proofs.Ended.{due_is_answered, else_is_done}
-use Rattle.sd_laws.proofs.Complete.{throughput_is_complete}
+use Rattle.sd_laws.proofs.DecidedRunsEnd.{due_is_answered, else_is_done}
+use Rattle.sd_laws.proofs.CompleteThroughput.{throughput_is_complete}
 use Rattle.sd_laws.proofs.CompleteStorage.{storage_is_complete}
 use Rattle.sd_laws.proofs.CompleteGenerate.{generate_is_complete}
 use Rattle.sd_laws.proofs.ValidPuts.{rates_put_are_valid}

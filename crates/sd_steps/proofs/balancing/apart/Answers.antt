@@ -1,4 +1,4 @@
-use Rattle.sd_steps.proofs.Refusals.{apart-shown}
+use Rattle.sd_steps.proofs.PartsShowRefusals.{apart-shown}
 use Rattle.sd_steps.proofs.balancing.apart.Goals as goal
 
 pub returns : goal.returns

@@ -1,4 +1,4 @@
-use Rattle.sd_steps.proofs.Refusals.{inconsistent-shown}
+use Rattle.sd_steps.proofs.PartsShowRefusals.{inconsistent-shown}
 use Rattle.sd_steps.proofs.WalkSteps.{unbalanced_steps}
 use Rattle.sd_steps.proofs.balancing.inconsistent.Goals as goal
 

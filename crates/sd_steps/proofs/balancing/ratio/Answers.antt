@@ -1,4 +1,4 @@
-use Rattle.sd_steps.proofs.Refusals.{ratio-shown}
+use Rattle.sd_steps.proofs.PartsShowRefusals.{ratio-shown}
 use Rattle.sd_steps.proofs.WalkSteps.{ratio_steps}
 use Rattle.sd_steps.proofs.balancing.ratio.Goals as goal
 

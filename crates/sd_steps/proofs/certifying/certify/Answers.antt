@@ -3,7 +3,7 @@ use Rattle.sd_base.specs.declared.limits.TheConstants.{CERTIFICATE_BYTES}
 use Rattle.sd_base.specs.Limits.{greatest_of}
 use Rattle.sd_steps.specs.Certifyings.{certifying}
 use Rattle.sd_steps.specs.Steps.{Does}
-use Rattle.sd_steps.proofs.Filed.{filed_does}
+use Rattle.sd_steps.proofs.TextsDecideFiles.{filed_does}
 use Rattle.sd_steps.proofs.certifying.certify.Goals as goal
 
 pub returns : goal.returns

@@ -3,7 +3,7 @@ use Rattle.report.specs.RefusalLines.{memory_line}
 use Rattle.sd_steps.specs.declared.status.Status.TheVariants as statuses
 use Rattle.sd_steps.specs.Courses.{Answered}
 use Rattle.sd_steps.specs.RunEndings.{of_memory, of_putting}
-use Rattle.sd_steps.proofs.Endings.{ends_answered, ends_told}
+use Rattle.sd_steps.proofs.SentDecidesEnding.{ends_answered, ends_told}
 use Rattle.sd_steps.proofs.delivering.deliver.Goals as goal
 
 pub returns-in-Ok-clause-ends : goal.returns-in-Ok-clause-ends

@@ -1,4 +1,4 @@
-use Rattle.sd_steps.proofs.Overs.{blocked-shown, blocked-lacks}
+use Rattle.sd_steps.proofs.NetsStandOverGraphs.{blocked-shown, blocked-lacks}
 use Rattle.sd_steps.proofs.nets.complete.Goals as goal
 
 pub lacks_text-requires-clause-lacks : goal.lacks_text-requires-clause-lacks

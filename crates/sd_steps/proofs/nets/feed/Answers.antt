@@ -1,5 +1,5 @@
-use Rattle.balance.proofs.ChannelEnds.{are-actors}
-use Rattle.sd_steps.proofs.Joins.{with-inputs}
+use Rattle.balance.proofs.EndsAreActors.{are-actors}
+use Rattle.sd_steps.proofs.PathsConnectNets.{with-inputs}
 use Rattle.sd_steps.proofs.nets.feed.Goals as goal
 
 pub no_input-requires-clause-ends : goal.no_input-requires-clause-ends

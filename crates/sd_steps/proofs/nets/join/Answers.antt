@@ -1,5 +1,5 @@
-use Rattle.balance.proofs.ChannelEnds.{are-actors}
-use Rattle.sd_steps.proofs.Joins.{strongly}
+use Rattle.balance.proofs.EndsAreActors.{are-actors}
+use Rattle.sd_steps.proofs.PathsConnectNets.{strongly}
 use Rattle.sd_steps.proofs.nets.join.Goals as goal
 
 pub strongly_connected-requires-clause-ends : goal.strongly_connected-requires-clause-ends

@@ -2,7 +2,7 @@ use Rattle.std.proofs.Common.{Err}
 use Rattle.std.proofs.lemmas.Result.{err_from_is_err_and}
 use Rattle.sd_steps.specs.Courses.{through}
 use Rattle.sd_steps.specs.Nets.{joining, feeding, completing}
-use Rattle.sd_steps.proofs.Throughs.{through_on, through_stops}
+use Rattle.sd_steps.proofs.StepsCompose.{through_on, through_stops}
 use Rattle.sd_steps.proofs.nets.test.Goals as goal
 
 pub returns-in_err-join-clause-does : goal.returns-in_err-join-clause-does

@@ -5,7 +5,7 @@ use Rattle.sd_base.specs.Limits.{greatest_of}
 use Rattle.sd_steps.specs.declared.file_kind.FileKind.TheVariants.{Certificate}
 use Rattle.sd_steps.specs.CertificateReadings.{reading_certificate}
 use Rattle.sd_steps.specs.Takings.{Files, taking}
-use Rattle.sd_steps.proofs.Throughs.{taken_through, taking_through}
+use Rattle.sd_steps.proofs.StepsCompose.{taken_through, taking_through}
 use Rattle.sd_steps.proofs.opening.open_certificate.Goals as goal
 
 pub returns-in_err-bytes-clause-takes : goal.returns-in_err-bytes-clause-takes

@@ -2,7 +2,7 @@ use Rattle.std.proofs.lemmas.Result.{err_from_is_err_and}
 use Rattle.sd_steps.specs.declared.file_kind.FileKind.TheVariants.{Graph}
 use Rattle.sd_steps.specs.Readings.{reading_graph}
 use Rattle.sd_steps.specs.Takings.{Files, taking}
-use Rattle.sd_steps.proofs.Throughs.{taken_through, taking_through}
+use Rattle.sd_steps.proofs.StepsCompose.{taken_through, taking_through}
 use Rattle.sd_steps.proofs.opening.open_graph.Goals as goal
 
 pub returns-in_err-bytes-clause-takes : goal.returns-in_err-bytes-clause-takes

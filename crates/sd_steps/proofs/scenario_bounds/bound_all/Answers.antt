@@ -1,7 +1,7 @@
 use Rattle.std.proofs.Common.{◌≤◌, List, length, ap, arith}
 use Rattle.std.proofs.lemmas.Result.{err_from_is_err_and}
 use Rattle.sd_base.specs.declared.tables.ScenarioRow.{ScenarioRow}
-use Rattle.sd_base.proofs.Lists.{item-at}
+use Rattle.sd_base.proofs.ElementsKeepPlaces.{item-at}
 use Rattle.sd_steps.specs.ScenarioBounds.{ArePassed, bounding_one}
 use Rattle.sd_steps.proofs.ScenarioWalks.{first_stops, passed_all, passed_more}
 use Rattle.sd_steps.proofs.scenario_bounds.bound_all.Goals as goal

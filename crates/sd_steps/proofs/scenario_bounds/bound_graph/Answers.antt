@@ -11,8 +11,8 @@ use Rattle.sd_steps.specs.Balancings.{balancing}
 use Rattle.sd_steps.specs.Nets.{IsFed, completing, feeding}
 use Rattle.sd_steps.specs.ScenarioBounds.{fitting}
 use Rattle.sd_steps.specs.Steps.{Does}
-use Rattle.sd_steps.proofs.Overs.{net-over}
-use Rattle.sd_steps.proofs.Throughs.{through_on, through_stops}
+use Rattle.sd_steps.proofs.NetsStandOverGraphs.{net-over}
+use Rattle.sd_steps.proofs.StepsCompose.{through_on, through_stops}
 use Rattle.sd_steps.proofs.scenario_bounds.bound_graph.Goals as goal
 
 abbrev few_on : GraphFile → List ℕ → Unit {0} → Step (Unit {0})

@@ -2,8 +2,8 @@ use Rattle.std.proofs.Common.{false, subst, sym}
 use Rattle.sd_base.specs.Net.{Net}
 use Rattle.sd_base.specs.FileNet.{net_of}
 use Rattle.report.specs.LinkTexts.{IsNamed}
-use Rattle.sd_steps.proofs.Joins.{fed-inputs}
-use Rattle.sd_steps.proofs.Overs.{net-over}
+use Rattle.sd_steps.proofs.PathsConnectNets.{fed-inputs}
+use Rattle.sd_steps.proofs.NetsStandOverGraphs.{net-over}
 use Rattle.sd_steps.proofs.scenario_steps.make_matrix.Goals as goal
 
 pub matrix_of-requires-clause-inputs : goal.matrix_of-requires-clause-inputs

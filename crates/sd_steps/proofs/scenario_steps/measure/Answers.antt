@@ -7,7 +7,7 @@ use Rattle.sd_base.specs.declared.tables.SharedRow.{SharedRow}
 use Rattle.sd_base.specs.Scenarios.{ScenarioKeepsRules}
 use Rattle.sd_steps.specs.ScenarioSteps.{measuring_one}
 use Rattle.sd_steps.specs.Steps.{Does}
-use Rattle.sd_steps.proofs.Measured.{kept_more, kept_all, stops}
+use Rattle.sd_steps.proofs.ScenariosAreMeasured.{kept_more, kept_all, stops}
 use Rattle.sd_steps.proofs.scenario_steps.measure.Goals as goal
 
 pub measure_one-requires : goal.measure_one-requires

@@ -1,4 +1,4 @@
-use Rattle.sd_steps.proofs.Measured.{AreKeptSoFar}
+use Rattle.sd_steps.proofs.ScenariosAreMeasured.{AreKeptSoFar}
 use Rattle.sd_steps.proofs.scenario_steps.measure.Given as goal
 
 abbrev pub invariant-loop-scenario : goal.invariant-loop-scenario

@@ -10,8 +10,8 @@ use Rattle.sd_steps.specs.Balancings.{balancing}
 use Rattle.sd_steps.specs.Nets.{IsFed, feeding}
 use Rattle.sd_steps.specs.ScenarioSteps.{Entries, making_matrix}
 use Rattle.sd_steps.specs.Steps.{Does}
-use Rattle.sd_steps.proofs.Overs.{net-over}
-use Rattle.sd_steps.proofs.Throughs.{through_stops, through_on}
+use Rattle.sd_steps.proofs.NetsStandOverGraphs.{net-over}
+use Rattle.sd_steps.proofs.StepsCompose.{through_stops, through_on}
 use Rattle.sd_steps.proofs.scenario_steps.measure_graph.Goals as goal
 
 abbrev fed_on : List SharedRow → GraphFile → List ℕ → Unit {0} → Step Entries

@@ -2,8 +2,8 @@ use Rattle.std.proofs.Common.{sym, subst}
 use Rattle.std.proofs.lemmas.Result.{err_from_is_err_and}
 use Rattle.automaton.specs.TimedGraphs.{AreKept}
 use Rattle.sd_steps.specs.ScenarioSteps.{linking, measuring}
-use Rattle.sd_steps.proofs.Measured.{sized}
-use Rattle.sd_steps.proofs.Throughs.{through_on, through_stops}
+use Rattle.sd_steps.proofs.ScenariosAreMeasured.{sized}
+use Rattle.sd_steps.proofs.StepsCompose.{through_on, through_stops}
 use Rattle.sd_steps.proofs.TimedFiles.{linked_sound, linked_timed}
 use Rattle.sd_steps.proofs.scenario_steps.timed.Goals as goal
 

@@ -3,7 +3,7 @@ use Rattle.std.proofs.lemmas.Result.{err_from_is_err_and}
 use Rattle.sd_words.specs.declared.names.OptionName.TheVariants as option
 use Rattle.sd_words.specs.OptionWords.{options}
 use Rattle.sd_words.specs.Asked.{Fails, readings}
-use Rattle.sd_words.proofs.Turns.{fails, all_checked-fails, all_checked-goes, all_checked-end, map-at, map-end}
+use Rattle.sd_words.proofs.TurnsGoOrEnd.{fails, all_checked-fails, all_checked-goes, all_checked-end, map-at, map-end}
 use Rattle.sd_words.specs.Given.{values_given}
 use Rattle.sd_words.proofs.checks.check_each.Goals as goal
 

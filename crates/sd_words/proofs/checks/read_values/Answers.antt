@@ -1,5 +1,5 @@
 use Rattle.std.proofs.Common.{◌∙◌}
-use Rattle.sd_words.proofs.Places.{seen-list}
+use Rattle.sd_words.proofs.PlacesHoldValues.{seen-list}
 use Rattle.sd_words.proofs.checks.read_values.Goals as goal
 
 pub returns-clause-read : goal.returns-clause-read

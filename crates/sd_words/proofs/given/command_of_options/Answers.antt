@@ -5,7 +5,7 @@ use Rattle.clap.specs.Words.{App, app_of, with_rule}
 use Rattle.sd_words.specs.declared.names.OptionName.TheVariants as opt
 use Rattle.sd_words.specs.OptionWords.{options}
 use Rattle.sd_words.specs.Given.{argument_of, command_of_options}
-use Rattle.sd_words.proofs.Turns.{fold-at}
+use Rattle.sd_words.proofs.TurnsGoOrEnd.{fold-at}
 use Rattle.sd_words.proofs.given.command_of_options.Goals as goal
 
 pub loop-option-preserved : goal.loop-option-preserved

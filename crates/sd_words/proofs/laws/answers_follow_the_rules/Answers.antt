@@ -1,7 +1,7 @@
 use Rattle.std.proofs.Common.{inl, refl}
 use Rattle.sd_words.specs.declared.request.UsageCause.TheVariants.{Words}
-use Rattle.sd_words.proofs.Causes.{asks, asked, asks_nothing, nothing_asked, misspelled}
-use Rattle.sd_words.proofs.Within.{asked_within}
+use Rattle.sd_words.proofs.AnswersFollowRules.{asks, asked, asks_nothing, nothing_asked, misspelled}
+use Rattle.sd_words.proofs.AskedNumbersFit.{asked_within}
 use Rattle.sd_words.proofs.laws.answers_follow_the_rules.Goals as goal
 
 pub returns-clause-request : goal.returns-clause-request

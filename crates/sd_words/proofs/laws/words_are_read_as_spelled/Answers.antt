@@ -1,4 +1,4 @@
-use Rattle.sd_words.proofs.Spelled.{read-spelled, spelled-read}
+use Rattle.sd_words.proofs.ReadingGivesSettings.{read-spelled, spelled-read}
 use Rattle.sd_words.proofs.laws.words_are_read_as_spelled.Goals as goal
 
 pub returns : goal.returns

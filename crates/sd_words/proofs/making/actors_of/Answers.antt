@@ -1,5 +1,5 @@
 use Rattle.std.proofs.Common.{arith}
-use Rattle.sd_words.proofs.States.{actors-read}
+use Rattle.sd_words.proofs.ReadNumbersFit.{actors-read}
 use Rattle.sd_words.proofs.making.actors_of.Goals as goal
 
 pub overflow_cast-result : goal.overflow_cast-result

@@ -1,7 +1,7 @@
 use Rattle.std.proofs.Common.{◌∙◌, ap}
 use Rattle.sd_words.specs.declared.names.OptionName.TheVariants as opt
 use Rattle.sd_words.specs.Asked.{buffers_in, request_for}
-use Rattle.sd_words.proofs.Places.{buffers-apart}
+use Rattle.sd_words.proofs.PlacesHoldValues.{buffers-apart}
 use Rattle.sd_words.proofs.making.ordered_request.Goals as goal
 
 pub returns : goal.returns

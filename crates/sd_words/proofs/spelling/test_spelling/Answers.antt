@@ -1,8 +1,8 @@
 use Rattle.std.proofs.Common.{◌≡◌, [], None, Some, get_or, refl, sym, ap, ◌∙◌, rules}
 use Rattle.std.proofs.lemmas.Result.{err_from_is_err_and}
 use Rattle.sd_words.specs.Reading.{◌>>=◌, settings_of, finished}
-use Rattle.sd_words.proofs.Turns.{fails, with_words-fails, with_words-goes, with_words-end}
-use Rattle.sd_words.proofs.Spelled.{free}
+use Rattle.sd_words.proofs.TurnsGoOrEnd.{fails, with_words-fails, with_words-goes, with_words-end}
+use Rattle.sd_words.proofs.ReadingGivesSettings.{free}
 use Rattle.sd_words.proofs.spelling.test_spelling.Goals as goal
 
 pub loop-word-init : goal.loop-word-init

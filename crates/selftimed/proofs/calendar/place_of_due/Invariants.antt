@@ -1,5 +1,5 @@
 use Rattle.std.proofs.Common.{◌<◌, All, take}
-use Rattle.selftimed.specs.inside.Agendas.{Entry}
+use Rattle.selftimed.specs.inside.EventQueues.{Entry}
 use Rattle.selftimed.proofs.calendar.place_of_due.Given as goal
 
 abbrev pub invariant-loop-place : goal.invariant-loop-place

@@ -1,8 +1,8 @@
 use Rattle.std.proofs.Common.{take, slice_index_or, arith}
 use Rattle.std.proofs.lemmas.Bool.{false≢true}
 use Rattle.std.proofs.lemmas.List.{take_all, take_more}
-use Rattle.selftimed.specs.inside.Agendas.{entry}
-use Rattle.selftimed.proofs.Calendars.{soonest-new, soonest-old}
+use Rattle.selftimed.specs.inside.EventQueues.{entry}
+use Rattle.selftimed.proofs.CalendarsTellSoonest.{soonest-new, soonest-old}
 use Rattle.selftimed.proofs.calendar.soonest_of.Goals.{then-is_sooner, else-is_sooner}
 use Rattle.selftimed.proofs.calendar.soonest_of.Goals as goal
 

@@ -1,5 +1,5 @@
 use Rattle.std.proofs.Common.{take}
-use Rattle.selftimed.specs.inside.Agendas.{IsSoonest}
+use Rattle.selftimed.specs.inside.EventQueues.{IsSoonest}
 use Rattle.selftimed.proofs.calendar.soonest_of.Given as goal
 
 abbrev pub invariant-loop-end : goal.invariant-loop-end

@@ -4,8 +4,8 @@ use Rattle.std.proofs.lemmas.Bool.{false≢true}
 use Rattle.std.proofs.lemmas.List.{get_or_default}
 use Rattle.selftimed.specs.declared.actors.ActorState.{ActorState}
 use Rattle.selftimed.specs.inside.Actors.{idle, running_in}
-use Rattle.selftimed.proofs.Shaping.{past-at}
-use Rattle.selftimed.proofs.Comparing.{times-agree, times-apart}
+use Rattle.selftimed.proofs.ShapesFollowActors.{past-at}
+use Rattle.selftimed.proofs.ShapesAgreeByActor.{times-agree, times-apart}
 use Rattle.selftimed.proofs.compare.same_running.Goals as goal
 
 pub same_times_left-requires-clause-left : goal.same_times_left-requires-clause-left

@@ -1,4 +1,4 @@
-use Rattle.selftimed.proofs.Comparing.{TimesAgree}
+use Rattle.selftimed.proofs.ShapesAgreeByActor.{TimesAgree}
 use Rattle.selftimed.proofs.compare.same_running.Given as goal
 
 abbrev pub invariant-loop-actor : goal.invariant-loop-actor

@@ -3,8 +3,8 @@ use Rattle.std.proofs.lemmas.Bool.{false≢true}
 use Rattle.std.proofs.lemmas.List.{get_or_default}
 use Rattle.sd_base.specs.Schedules.{phases_at}
 use Rattle.selftimed.specs.inside.Actors.{idle, started_in}
-use Rattle.selftimed.proofs.Shaping.{phase-is}
-use Rattle.selftimed.proofs.Comparing.{phases-agree, phases-apart}
+use Rattle.selftimed.proofs.ShapesFollowActors.{phase-is}
+use Rattle.selftimed.proofs.ShapesAgreeByActor.{phases-agree, phases-apart}
 use Rattle.selftimed.proofs.compare.same_stands.Goals as goal
 
 pub returns-then-here-phase_of : goal.returns-then-here-phase_of

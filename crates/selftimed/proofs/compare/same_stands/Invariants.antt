@@ -1,4 +1,4 @@
-use Rattle.selftimed.proofs.Comparing.{PhasesAgree}
+use Rattle.selftimed.proofs.ShapesAgreeByActor.{PhasesAgree}
 use Rattle.selftimed.proofs.compare.same_stands.Given as goal
 
 abbrev pub invariant-loop-actor : goal.invariant-loop-actor

@@ -1,4 +1,4 @@
-use Rattle.selftimed.proofs.Shifts.{shifted-all}
+use Rattle.selftimed.proofs.RunsShiftForward.{shifted-all}
 use Rattle.selftimed.proofs.queue.shift_down.Goals as goal
 
 pub returns : goal.returns

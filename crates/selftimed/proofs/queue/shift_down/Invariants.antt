@@ -1,4 +1,4 @@
-use Rattle.selftimed.proofs.Shifts.{Shifted}
+use Rattle.selftimed.proofs.RunsShiftForward.{Shifted}
 use Rattle.selftimed.proofs.queue.shift_down.Given as goal
 
 abbrev pub invariant-loop-place : goal.invariant-loop-place

@@ -1,6 +1,6 @@
 use Rattle.std.proofs.Common.{sym, ◌∙◌}
 use Rattle.sd_base.specs.Net.{channel_at}
-use Rattle.sd_base.proofs.Sums.{one-entry}
+use Rattle.sd_base.proofs.SumsRepeatByTurns.{one-entry}
 use Rattle.selftimed.proofs.rates.taken_at.Goals as goal
 
 pub returns-then-phases-eq1 : goal.returns-then-phases-eq1

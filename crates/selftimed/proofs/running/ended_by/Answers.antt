@@ -2,9 +2,9 @@ use Rattle.std.proofs.Common.{◌≡◌, ℕ, ◌+◌, ◌%◌, ◌^◌, ◌≤�
 use Rattle.std.proofs.lemmas.List.{length-append, length-replicate}
 use Rattle.std.proofs.lemmas.List.Elements.{All-append, All-replicate}
 use Rattle.selftimed.specs.inside.Runs.{ends_of, run_at}
-use Rattle.selftimed.proofs.Runs.{ends-length, length-more}
+use Rattle.selftimed.proofs.RunsListEnds.{ends-length, length-more}
 use Rattle.selftimed.proofs.FirstRun.{alone-ends, alone-sum, ends-more-first, length-first}
-use Rattle.selftimed.proofs.RunningPrints.{total-run}
+use Rattle.selftimed.proofs.RunningFingerprints.{total-run}
 use Rattle.selftimed.proofs.running.ended_by.Goals as goal
 
 pub overflow_add-firings : goal.overflow_add-firings

@@ -1,7 +1,7 @@
 use Rattle.std.proofs.Common.{sym, ◌∙◌, ◌<◌, length, arith}
 use Rattle.std.proofs.lemmas.List.{get_or_default}
 use Rattle.selftimed.specs.inside.Actors.{idle}
-use Rattle.selftimed.proofs.Shaping.{phases-more}
+use Rattle.selftimed.proofs.ShapesFollowActors.{phases-more}
 use Rattle.selftimed.proofs.shape.phases_of.Goals as goal
 
 pub loop-actor-preserved : goal.loop-actor-preserved

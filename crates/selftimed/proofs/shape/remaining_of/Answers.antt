@@ -1,7 +1,7 @@
 use Rattle.std.proofs.Common.{sym, refl, ◌∙◌}
 use Rattle.std.proofs.lemmas.List.{get_or_default}
 use Rattle.selftimed.specs.inside.Actors.{idle}
-use Rattle.selftimed.proofs.Shaping.{past-at, remaining-more}
+use Rattle.selftimed.proofs.ShapesFollowActors.{past-at, remaining-more}
 use Rattle.selftimed.proofs.shape.remaining_of.Goals as goal
 
 pub times_of-requires : goal.times_of-requires

@@ -2,7 +2,7 @@ use Rattle.std.proofs.Common.{sym, ◌∙◌, ◌<◌, length, arith}
 use Rattle.std.proofs.lemmas.Bool.{false≢true}
 use Rattle.std.proofs.lemmas.List.{get_or_default}
 use Rattle.selftimed.specs.inside.Actors.{idle}
-use Rattle.selftimed.proofs.Shaping.{phases-length, phases-differ, phases-same}
+use Rattle.selftimed.proofs.ShapesFollowActors.{phases-length, phases-differ, phases-same}
 use Rattle.selftimed.proofs.shape.same_phases.Goals as goal
 
 pub returns-then-phases-actors : goal.returns-then-phases-actors

@@ -2,7 +2,7 @@ use Rattle.std.proofs.Common.{[], sym, ◌∙◌, refl, arith}
 use Rattle.std.proofs.lemmas.Bool.{false≢true}
 use Rattle.std.proofs.lemmas.List.{get_or_default}
 use Rattle.selftimed.specs.inside.Actors.{idle}
-use Rattle.selftimed.proofs.Shaping.{past-at, remaining-differ, remaining-same}
+use Rattle.selftimed.proofs.ShapesFollowActors.{past-at, remaining-differ, remaining-same}
 use Rattle.selftimed.proofs.shape.same_remaining.Goals as goal
 
 pub same_running_times-requires : goal.same_running_times-requires

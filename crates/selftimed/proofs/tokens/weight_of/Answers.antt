@@ -1,5 +1,5 @@
 use Rattle.std.proofs.Common.{refl}
-use Rattle.selftimed.specs.Prints.{weight, spread}
+use Rattle.selftimed.specs.Fingerprints.{weight, spread}
 use Rattle.selftimed.proofs.tokens.weight_of.Goals as goal
 
 pub returns : goal.returns

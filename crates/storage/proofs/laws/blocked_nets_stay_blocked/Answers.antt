@@ -1,6 +1,6 @@
 use Rattle.storage.specs.BoundedNets.{bound}
-use Rattle.storage.proofs.Kept.{blocks-still}
-use Rattle.storage.proofs.Zeros.{bound-timed, bound-wired, bound-balanced, blocked-zero}
+use Rattle.storage.proofs.BlockingStays.{blocks-still}
+use Rattle.storage.proofs.BlockingForcesZero.{bound-timed, bound-wired, bound-balanced, blocked-zero}
 use Rattle.storage.proofs.laws.blocked_nets_stay_blocked.Goals as goal
 
 pub returns-clause-still : goal.returns-clause-still

@@ -1,5 +1,5 @@
 use Rattle.storage.specs.ClosedLists.{entry_at}
-use Rattle.storage.proofs.Covers.{covered, net-above, net-bounds}
+use Rattle.storage.proofs.MembersCover.{covered, net-above, net-bounds}
 use Rattle.storage.proofs.FrontsFromMembers.{front-over}
 use Rattle.storage.proofs.laws.closed_lists_give_the_front.Goals as goal
 

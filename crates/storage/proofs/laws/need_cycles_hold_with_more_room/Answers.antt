@@ -1,5 +1,5 @@
 use Rattle.storage.specs.BoundedNets.{bound}
-use Rattle.storage.proofs.Cycling.{holds-still}
+use Rattle.storage.proofs.NeedCyclesHold.{holds-still}
 use Rattle.storage.proofs.laws.need_cycles_hold_with_more_room.Goals as goal
 
 pub returns-clause-holds : goal.returns-clause-holds

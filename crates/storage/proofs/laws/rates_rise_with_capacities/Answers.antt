@@ -1,7 +1,7 @@
-use Rattle.sd_base.proofs.Parts.{balanced}
+use Rattle.sd_base.proofs.LawfulIsRegular.{balanced}
 use Rattle.storage.specs.BoundedNets.{bound}
-use Rattle.storage.proofs.Easings.{eases-rates}
-use Rattle.storage.proofs.Roundings.{bound-eases, more-eases}
+use Rattle.storage.proofs.EasingKeepsSchedules.{eases-rates}
+use Rattle.storage.proofs.RoundingKeepsNeeds.{bound-eases, more-eases}
 use Rattle.storage.proofs.laws.rates_rise_with_capacities.Goals as goal
 
 pub returns : goal.returns

@@ -3,7 +3,7 @@ use Rattle.std.specs.Prelude.{slice_get}
 use Rattle.std.proofs.lemmas.Bool.{cases_lt}
 use Rattle.sd_base.specs.Net.{channel_at}
 use Rattle.test_explore.specs.Fitting.{FitsAt}
-use Rattle.test_explore.proofs.Fitting.{fits-distribution}
+use Rattle.test_explore.proofs.EntriesFormDistribution.{fits-distribution}
 use Rattle.test_explore.proofs.evaluable.is_distribution.Goals as goal
 
 pub loop-channel-preserved : goal.loop-channel-preserved

@@ -1,6 +1,6 @@
 use Rattle.std.proofs.Common.{rules}
 use Rattle.storage.proofs.FileChannels.{plain-no_spaces}
-use Rattle.storage.proofs.Fits.{can-hold}
+use Rattle.storage.proofs.DistributionsShareLaws.{can-hold}
 use Rattle.test_explore.proofs.evaluable.is_evaluable.Goals as goal
 
 pub returns : goal.returns

@@ -1,8 +1,8 @@
 use Rattle.std.proofs.Common.{◌≤◌, List, length, ap, arith}
 use Rattle.sd_base.specs.declared.tables.ScenarioRow.{ScenarioRow}
-use Rattle.sd_base.proofs.Lists.{item-at}
+use Rattle.sd_base.proofs.ElementsKeepPlaces.{item-at}
 use Rattle.test_scenario_storage.specs.Running.{Runs}
-use Rattle.test_scenario_storage.proofs.Walks.{holds-all, holds-more}
+use Rattle.test_scenario_storage.proofs.TestsHoldForAll.{holds-all, holds-more}
 use Rattle.test_scenario_storage.proofs.boundable.all_run.Goals as goal
 
 pub runs-requires-clause-rules : goal.runs-requires-clause-rules

@@ -1,6 +1,6 @@
 use Rattle.std.proofs.Common.{ℕ, ◌+◌, ◌*◌, ◌≤◌, subst}
 use Rattle.sd_base.specs.declared.limits.TheConstants.{NODES}
-use Rattle.test_scenario_storage.proofs.Bounding.{can-be-bounded}
+use Rattle.test_scenario_storage.proofs.TestedCanBeBounded.{can-be-bounded}
 use Rattle.test_scenario_storage.proofs.boundable.is_boundable.Goals as goal
 
 pub returns : goal.returns

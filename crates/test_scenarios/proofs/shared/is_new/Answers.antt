@@ -2,7 +2,7 @@ use Rattle.std.proofs.Common.{◌≡◌, ◌≢◌, ◌∙◌, ap, sym, refl, So
 use Rattle.std.specs.Prelude.{slice_get}
 use Rattle.std.proofs.lemmas.Option.{slice_get_read}
 use Rattle.sd_base.specs.declared.tables.ChannelRow.{ChannelRow}
-use Rattle.test_scenarios.proofs.Further.{further}
+use Rattle.test_scenarios.proofs.PrefixesExtend.{further}
 use Rattle.test_scenarios.proofs.shared.is_new.Goals as goal
 
 pub loop-before-preserved : goal.loop-before-preserved

@@ -1,6 +1,6 @@
 use Rattle.std.proofs.Common.{subst}
 use Rattle.test_scenarios.specs.Sharing.{BeginWith}
-use Rattle.test_scenarios.proofs.Begins.{begin-shares}
+use Rattle.test_scenarios.proofs.FirstChannelsShare.{begin-shares}
 use Rattle.test_scenarios.proofs.shared.shares.Goals as goal
 
 pub returns : goal.returns

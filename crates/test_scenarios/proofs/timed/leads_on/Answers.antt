@@ -2,7 +2,7 @@ use Rattle.std.proofs.Common.{◌≡◌, ℕ, ◌*◌, ◌≤◌, ◌<◌, ◌�
 use Rattle.std.proofs.lemmas.Bool.{cases_lt}
 use Rattle.automaton.specs.SoundGraphs.{node_count}
 use Rattle.test_scenarios.specs.Leading.{LeadsFrom}
-use Rattle.test_scenarios.proofs.Onward.{grows}
+use Rattle.test_scenarios.proofs.WalksOutgrowNumbers.{grows}
 use Rattle.test_scenarios.proofs.timed.leads_on.Goals as goal
 
 pub loop-node-preserved : goal.loop-node-preserved

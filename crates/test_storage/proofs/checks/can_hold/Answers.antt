@@ -1,5 +1,5 @@
 use Rattle.std.proofs.Common.{◌≤◌, length, arith, rules}
-use Rattle.test_storage.proofs.Holding.{can-hold}
+use Rattle.test_storage.proofs.FittingEntriesHold.{can-hold}
 use Rattle.test_storage.proofs.checks.can_hold.Goals as goal
 
 pub returns-clause-can : goal.returns-clause-can

@@ -1,5 +1,5 @@
 use Rattle.std.proofs.Common.{rules}
-use Rattle.critical.proofs.Storage.{cycle-places}
+use Rattle.critical.proofs.ListedSpacesRise.{cycle-places}
 use Rattle.test_storage.proofs.cycle_tests.storage_of.Goals as goal
 
 pub storage_channels-requires : goal.storage_channels-requires

@@ -1,6 +1,6 @@
 use Rattle.std.proofs.Common.{refl, arith}
 use Rattle.std.proofs.lemmas.Bool.{false≢true}
-use Rattle.token_matrix.proofs.Numbering.{first_here, first_on, count_on}
+use Rattle.token_matrix.proofs.NumbersCoverTokens.{first_here, first_on, count_on}
 use Rattle.token_matrix.proofs.making.first_token.Goals as goal
 
 pub returns-then-is_same : goal.returns-then-is_same

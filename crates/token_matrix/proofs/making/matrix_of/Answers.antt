@@ -3,7 +3,7 @@ use Rattle.std.proofs.lemmas.List.{take_at}
 use Rattle.sd_base.specs.FileNet.{net_of}
 use Rattle.token_matrix.specs.Stamps.{first_of}
 use Rattle.token_matrix.specs.Matrices.{IsMatrix}
-use Rattle.token_matrix.proofs.MatrixOf.{answered-order, starts_at, ends_at, are_held, is_square, matrix_is}
+use Rattle.token_matrix.proofs.RoundsGiveMatrices.{answered-order, starts_at, ends_at, are_held, is_square, matrix_is}
 use Rattle.token_matrix.proofs.making.matrix_of.Goals as goal
 
 pub run_round-requires : goal.run_round-requires

@@ -7,8 +7,8 @@ use Rattle.std.specs.Result.{OnOk}
 use Rattle.sd_base.specs.declared.memory.NoMemory.{NoMemory}
 use Rattle.token_matrix.specs.inside.Lines.{ArePut}
 use Rattle.token_matrix.specs.inside.RoundRows.{Stands}
-use Rattle.token_matrix.proofs.Moving.{are_ready, row_within, stands_more}
-use Rattle.token_matrix.proofs.Orders.{fires_at, after_more, after_within}
+use Rattle.token_matrix.proofs.FiringsMoveRows.{are_ready, row_within, stands_more}
+use Rattle.token_matrix.proofs.OrdersFireInTurn.{fires_at, after_more, after_within}
 use Rattle.token_matrix.proofs.round.fire.Goals as goal
 
 pub inputs_of-requires : goal.inputs_of-requires

@@ -1,7 +1,7 @@
 use Rattle.std.proofs.Common.{List, length, sym, ap, ◌∙◌, arith}
 use Rattle.std.specs.Prelude.{slice_index_or}
 use Rattle.covers.specs.declared.lattice.Axis.{Axis}
-use Rattle.walks.proofs.Steps.{step-here, step-past}
+use Rattle.walks.proofs.StepsFitLattice.{step-here, step-past}
 use Rattle.walks.proofs.choosing.step_of.Goals as goal
 
 pub returns-then-place-axes-clause-step : goal.returns-then-place-axes-clause-step

@@ -7,7 +7,7 @@ use Rattle.walks.specs.declared.telling.Telling.{Telling}
 use Rattle.walks.specs.Tellings.{IsHeld, IsHeldAt}
 use Rattle.walks.specs.Walks.{with_step}
 use Rattle.walks.specs.inside.Lacks.{LacksMost, LacksNone}
-use Rattle.walks.proofs.Steps.{lack-fits}
+use Rattle.walks.proofs.StepsFitLattice.{lack-fits}
 use Rattle.walks.proofs.WalkEnds.{begun, gone-on, held-up, lacks-less, place-within, stopped}
 use Rattle.walks.proofs.walking.walk.Goals as goal
 use Rattle.walks.proofs.walking.walk.Goals.{After-enlarge, After-as_slice-shown, In-Some, In-Some-most_lacking}

@@ -1,4 +1,4 @@
-use Rattle.walks.proofs.Lacking.{lacking}
+use Rattle.walks.proofs.StepsLessenLack.{lacking}
 use Rattle.walks.proofs.WalkEnds.{IsUnderWay}
 use Rattle.walks.proofs.walking.walk.Given as goal
 

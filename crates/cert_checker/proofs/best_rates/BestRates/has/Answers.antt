@@ -3,7 +3,7 @@ use Rattle.std.specs.Prelude.{not}
 use Rattle.cert_checker.specs.declared.best_rates.Best.{Best}
 use Rattle.cert_checker.specs.inside.Bests.{IsAtMost, best_at, no_best}
 use Rattle.cert_checker.proofs.BestRates.{best-found}
-use Rattle.cert_checker.proofs.Glue.{item-of}
+use Rattle.cert_checker.proofs.AnswersJudgeLines.{item-of}
 use Rattle.cert_checker.proofs.best_rates.BestRates.has.Goals as goal
 
 pub returns-then-count-ne0 : goal.returns-then-count-ne0

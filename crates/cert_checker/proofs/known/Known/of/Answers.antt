@@ -2,7 +2,7 @@ use Rattle.std.proofs.Common.{◌≡◌, ◌<◌, ℕ, length, ap, refl, subst, 
 use Rattle.cert_text.specs.declared.certificates.MemberLine.{MemberLine}
 use Rattle.cert_checker.specs.ShownChannels.{member_at, no_member}
 use Rattle.cert_checker.specs.inside.KnownSets.{IsNumber, number_of}
-use Rattle.cert_checker.proofs.Glue.{item-of}
+use Rattle.cert_checker.proofs.AnswersJudgeLines.{item-of}
 use Rattle.cert_checker.proofs.KnownLists.{numbers-more, numbers-none}
 use Rattle.cert_checker.proofs.known.Known.of.Goals as goal
 

@@ -4,7 +4,7 @@ use Rattle.cert_text.specs.declared.certificates.LinkStep.{LinkStep}
 use Rattle.cert_text.specs.MemberLines.{cycle_at, no_cycle}
 use Rattle.cert_checker.specs.inside.ShownAt.{HasSpaceLink}
 use Rattle.cert_checker.specs.inside.Spaces.{HasSpace}
-use Rattle.cert_checker.proofs.Glue.{item-of}
+use Rattle.cert_checker.proofs.AnswersJudgeLines.{item-of}
 use Rattle.cert_checker.proofs.SpaceSets.{cycle-more, linked-below, space-none}
 use Rattle.cert_checker.proofs.spaces.Spaces.of.Goals as goal
 

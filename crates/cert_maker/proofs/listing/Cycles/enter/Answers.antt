@@ -1,7 +1,7 @@
 use Rattle.std.proofs.Common.{List, subst, map}
 use Rattle.cert_text.specs.declared.certificates.LinkCycle.{LinkCycle}
 use Rattle.cert_maker.specs.inside.Listing.{IsEntered, cycle_of}
-use Rattle.cert_maker.proofs.Listed.{distinct-differ, listed-entered, listed-there}
+use Rattle.cert_maker.proofs.CyclesListedOnce.{distinct-differ, listed-entered, listed-there}
 use Rattle.cert_maker.proofs.listing.Cycles.enter.Goals as goal
 
 pub invariant_of-self-2 : goal.invariant_of-self-2

@@ -1,5 +1,5 @@
 use Rattle.std.proofs.Common.{refl}
-use Rattle.cert_text.proofs.Numerals.{lengths-decide, digits-decide, digits-more, digits-end}
+use Rattle.cert_text.proofs.DigitsSpellValues.{lengths-decide, digits-decide, digits-more, digits-end}
 use Rattle.cert_text.proofs.reading.buffers.is_less.Goals as goal
 
 pub returns-then-a-b : goal.returns-then-a-b

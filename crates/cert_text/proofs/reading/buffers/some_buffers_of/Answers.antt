@@ -3,8 +3,8 @@ use Rattle.std.proofs.lemmas.Result.{err_from_is_err_and}
 use Rattle.cert_text.specs.BufferLines.{buffers_line}
 use Rattle.cert_text.specs.LineForms.{some_buffers_due}
 use Rattle.cert_text.specs.Spellable.{Rise}
-use Rattle.cert_text.proofs.Entries.{goes-fails, goes-unended, gives-same, if-ok}
-use Rattle.cert_text.proofs.Rising.{rising-start, rising-unworded, rising-none, rising-more, rising-falls, rising-ends, buffers-sound}
+use Rattle.cert_text.proofs.EntriesAreReadInTurn.{goes-fails, goes-unended, gives-same, if-ok}
+use Rattle.cert_text.proofs.BuffersRise.{rising-start, rising-unworded, rising-none, rising-more, rising-falls, rising-ends, buffers-sound}
 use Rattle.cert_text.proofs.reading.buffers.some_buffers_of.Goals as goal
 
 pub returns-in_err-word-clause-exact : goal.returns-in_err-word-clause-exact

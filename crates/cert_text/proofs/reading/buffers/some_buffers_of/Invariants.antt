@@ -2,7 +2,7 @@ use Rattle.std.proofs.Common.{length}
 use Rattle.cert_text.specs.Digits.{IsNumeral}
 use Rattle.cert_text.specs.Fields.{number_value}
 use Rattle.cert_text.specs.LineForms.{some_buffers_due}
-use Rattle.cert_text.proofs.Rising.{Rising}
+use Rattle.cert_text.proofs.BuffersRise.{Rising}
 use Rattle.cert_text.proofs.reading.buffers.some_buffers_of.Given as goal
 
 abbrev pub invariant-loop-line : goal.invariant-loop-line

@@ -1,11 +1,11 @@
 use Rattle.std.proofs.lemmas.Result.{err_from_is_err_and}
-use Rattle.sd_base.proofs.Lists.{many-more}
+use Rattle.sd_base.proofs.ElementsKeepPlaces.{many-more}
 use Rattle.cert_text.specs.CycleLines.{step_line}
 use Rattle.cert_text.specs.LineForms.{step_due}
 use Rattle.cert_text.specs.Reads.{next_by}
 use Rattle.cert_text.specs.Spellable.{HasText}
-use Rattle.cert_text.proofs.Texts.{read-more, all-pushed}
-use Rattle.cert_text.proofs.Times.{times-more, times-fails, times-ends}
+use Rattle.cert_text.proofs.PiecesMakeTexts.{read-more, all-pushed}
+use Rattle.cert_text.proofs.RepeatedReadsGoOn.{times-more, times-fails, times-ends}
 use Rattle.cert_text.proofs.reading.cycles.steps.Goals as goal
 
 pub loop-place-preserved : goal.loop-place-preserved

@@ -1,5 +1,5 @@
 use Rattle.std.proofs.Common.{length, arith}
-use Rattle.cert_text.proofs.Numerals.{digits-place}
+use Rattle.cert_text.proofs.DigitsSpellValues.{digits-place}
 use Rattle.cert_text.proofs.reading.digits.digits_before.Goals as goal
 use Rattle.cert_text.proofs.reading.digits.digits_before.Goals.{then-byte-lt48-via-then-byte-lt48, then-byte-lt48-via-else-byte-lt48+then-byte-gt57}
 

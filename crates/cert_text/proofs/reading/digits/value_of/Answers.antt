@@ -3,7 +3,7 @@ use Rattle.std.specs.Prelude.{slice_index}
 use Rattle.std.specs.Fmt.{decimal}
 use Rattle.std.proofs.lemmas.List.{take_all}
 use Rattle.cert_text.specs.Fields.{number_value}
-use Rattle.cert_text.proofs.Numerals.{value-more, value-none, value-least, numeral-decimal}
+use Rattle.cert_text.proofs.DigitsSpellValues.{value-more, value-none, value-least, numeral-decimal}
 use Rattle.cert_text.proofs.reading.digits.value_of.Goals as goal
 use Rattle.cert_text.proofs.reading.digits.value_of.Goals.{then-digit-limit-via-then-digit-limit, then-digit-limit-via-else-digit-limit+then-number-limit}
 

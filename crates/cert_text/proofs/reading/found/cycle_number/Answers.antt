@@ -1,7 +1,7 @@
 use Rattle.std.proofs.Common.{◌≡◌, ◌∙◌, ap, sym, refl, false, length, rules, vec_len}
 use Rattle.std.specs.Prelude.{not}
 use Rattle.std.specs.List.{list_any}
-use Rattle.sd_base.proofs.Lists.{place-none}
+use Rattle.sd_base.proofs.ElementsKeepPlaces.{place-none}
 use Rattle.cert_text.specs.CycleLines.{cycle_lines}
 use Rattle.cert_text.specs.Sections.{same_cycle}
 use Rattle.cert_text.proofs.FoundCycles.{found-number, found-none, text-taken, texts-more, with-new, with-old}

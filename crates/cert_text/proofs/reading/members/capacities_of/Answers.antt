@@ -2,7 +2,7 @@ use Rattle.std.proofs.Common.{◌≡◌, ℕ, ◌∙◌, List, Option, sym, inr}
 use Rattle.std.proofs.lemmas.Result.{err_from_is_err_and}
 use Rattle.cert_text.specs.LineForms.{capacity_limited, capacities_due}
 use Rattle.cert_text.specs.MemberLines.{member_line}
-use Rattle.cert_text.proofs.Entries.{capacities-start, capacities-none, capacities-sound, collects-more, collects-ends, goes-fails, goes-unended, gives-same, if-ok}
+use Rattle.cert_text.proofs.EntriesAreReadInTurn.{capacities-start, capacities-none, capacities-sound, collects-more, collects-ends, goes-fails, goes-unended, gives-same, if-ok}
 use Rattle.cert_text.proofs.reading.members.capacities_of.Goals as goal
 
 pub returns-in_err-word-clause-exact : goal.returns-in_err-word-clause-exact

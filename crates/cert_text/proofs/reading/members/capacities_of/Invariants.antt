@@ -1,7 +1,7 @@
 use Rattle.std.proofs.Common.{length}
 use Rattle.cert_text.specs.Fields.{each_by}
 use Rattle.cert_text.specs.LineForms.{capacity_in, capacity_limited, capacities_due}
-use Rattle.cert_text.proofs.Entries.{Collects}
+use Rattle.cert_text.proofs.EntriesAreReadInTurn.{Collects}
 use Rattle.cert_text.proofs.reading.members.capacities_of.Given as goal
 
 abbrev pub invariant-loop-line : goal.invariant-loop-line

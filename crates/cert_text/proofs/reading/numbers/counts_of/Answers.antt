@@ -3,7 +3,7 @@ use Rattle.std.proofs.lemmas.Result.{err_from_is_err_and}
 use Rattle.cert_text.specs.Fields.{limited}
 use Rattle.cert_text.specs.LineForms.{numbers_due}
 use Rattle.cert_text.specs.NumberLines.{numbers_line}
-use Rattle.cert_text.proofs.Entries.{numbers-start, numbers-none, numbers-sound, collects-more, collects-ends, goes-fails, goes-unended, gives-same, if-ok}
+use Rattle.cert_text.proofs.EntriesAreReadInTurn.{numbers-start, numbers-none, numbers-sound, collects-more, collects-ends, goes-fails, goes-unended, gives-same, if-ok}
 use Rattle.cert_text.proofs.reading.numbers.counts_of.Goals as goal
 
 pub returns-in_err-first-clause-exact : goal.returns-in_err-first-clause-exact

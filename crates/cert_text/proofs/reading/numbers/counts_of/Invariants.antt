@@ -2,7 +2,7 @@ use Rattle.std.proofs.Common.{length}
 use Rattle.std.specs.Prelude.{codes}
 use Rattle.cert_text.specs.Fields.{each_by, limited, worded_in}
 use Rattle.cert_text.specs.LineForms.{numbers_due}
-use Rattle.cert_text.proofs.Entries.{Collects}
+use Rattle.cert_text.proofs.EntriesAreReadInTurn.{Collects}
 use Rattle.cert_text.proofs.reading.numbers.counts_of.Given as goal
 
 abbrev pub invariant-loop-line : goal.invariant-loop-line

@@ -3,7 +3,7 @@ use Rattle.std.specs.Prelude.{codes}
 use Rattle.sd_base.specs.declared.limits.TheConstants.{START}
 use Rattle.cert_text.specs.Fields.{each_by, limited, worded_in}
 use Rattle.cert_text.specs.LineForms.{numbers_due}
-use Rattle.cert_text.proofs.Entries.{Collects}
+use Rattle.cert_text.proofs.EntriesAreReadInTurn.{Collects}
 use Rattle.cert_text.proofs.reading.numbers.starts_of.Given as goal
 
 abbrev pub invariant-loop-line : goal.invariant-loop-line

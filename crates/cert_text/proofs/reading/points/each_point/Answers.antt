@@ -1,12 +1,12 @@
 use Rattle.std.proofs.Common.{All}
 use Rattle.std.proofs.lemmas.Result.{err_from_is_err_and}
-use Rattle.sd_base.proofs.Lists.{many-more}
+use Rattle.sd_base.proofs.ElementsKeepPlaces.{many-more}
 use Rattle.cert_text.specs.MemberLines.{point_lines}
 use Rattle.cert_text.specs.Sections.{point_from}
 use Rattle.cert_text.specs.declared.certificates.PointLine.{PointLine}
 use Rattle.cert_text.specs.Spellable.{AreStarts}
-use Rattle.cert_text.proofs.Texts.{read-more, all-pushed}
-use Rattle.cert_text.proofs.Times.{times-more, times-fails, times-ends}
+use Rattle.cert_text.proofs.PiecesMakeTexts.{read-more, all-pushed}
+use Rattle.cert_text.proofs.RepeatedReadsGoOn.{times-more, times-fails, times-ends}
 use Rattle.cert_text.proofs.reading.points.each_point.Goals as goal
 
 pub loop-place-preserved : goal.loop-place-preserved

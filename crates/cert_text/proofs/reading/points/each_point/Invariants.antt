@@ -5,7 +5,7 @@ use Rattle.cert_text.specs.Reads.{lines_of, times_by}
 use Rattle.cert_text.specs.Sections.{point_from}
 use Rattle.cert_text.specs.Spellable.{AreStarts}
 use Rattle.cert_text.specs.declared.certificates.PointLine.{PointLine}
-use Rattle.cert_text.proofs.Times.{with_front}
+use Rattle.cert_text.proofs.RepeatedReadsGoOn.{with_front}
 use Rattle.cert_text.proofs.reading.points.each_point.Given as goal
 
 abbrev pub invariant-loop-place : goal.invariant-loop-place

@@ -1,10 +1,10 @@
 use Rattle.std.proofs.lemmas.Result.{err_from_is_err_and}
-use Rattle.sd_base.proofs.Lists.{many-more}
+use Rattle.sd_base.proofs.ElementsKeepPlaces.{many-more}
 use Rattle.cert_text.specs.LineForms.{potential_due}
 use Rattle.cert_text.specs.Reads.{next_by}
 use Rattle.cert_text.specs.ScenarioLines.{potential_line}
-use Rattle.cert_text.proofs.Texts.{read-more}
-use Rattle.cert_text.proofs.Times.{times-more, times-fails, times-ends}
+use Rattle.cert_text.proofs.PiecesMakeTexts.{read-more}
+use Rattle.cert_text.proofs.RepeatedReadsGoOn.{times-more, times-fails, times-ends}
 use Rattle.cert_text.proofs.reading.scenarios.each_potential.Goals as goal
 
 pub loop-place-preserved : goal.loop-place-preserved

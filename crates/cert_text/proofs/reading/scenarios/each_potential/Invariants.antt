@@ -3,7 +3,7 @@ use Rattle.std.specs.List.{flat_map}
 use Rattle.cert_text.specs.LineForms.{potential_due}
 use Rattle.cert_text.specs.Reads.{lines_of, next_by, times_by}
 use Rattle.cert_text.specs.ScenarioLines.{potential_line}
-use Rattle.cert_text.proofs.Times.{with_front}
+use Rattle.cert_text.proofs.RepeatedReadsGoOn.{with_front}
 use Rattle.cert_text.proofs.reading.scenarios.each_potential.Given as goal
 
 abbrev pub invariant-loop-place : goal.invariant-loop-place

@@ -1,12 +1,12 @@
 use Rattle.std.proofs.Common.{◌≡◌, ◌∙◌, ap, ◌∷◌, ◌++◌, ◌-◌, [], List, ℕ, refl, arith}
 use Rattle.std.proofs.lemmas.Result.{err_from_is_err_and}
-use Rattle.sd_base.proofs.Lists.{many-more}
+use Rattle.sd_base.proofs.ElementsKeepPlaces.{many-more}
 use Rattle.cert_text.specs.LineForms.{node_due}
 use Rattle.cert_text.specs.Reads.{lines_of, next_by, times_by}
 use Rattle.cert_text.specs.ScenarioLines.{node_line}
 use Rattle.cert_text.specs.Sections.{entered_from}
-use Rattle.cert_text.proofs.Texts.{read-more}
-use Rattle.cert_text.proofs.Times.{with_front, times-more, times-fails, times-ends}
+use Rattle.cert_text.proofs.PiecesMakeTexts.{read-more}
+use Rattle.cert_text.proofs.RepeatedReadsGoOn.{with_front, times-more, times-fails, times-ends}
 use Rattle.cert_text.proofs.reading.scenarios.entered.Goals as goal
 
 pub loop-place-preserved : goal.loop-place-preserved

@@ -4,7 +4,7 @@ use Rattle.cert_text.specs.LineForms.{node_due}
 use Rattle.cert_text.specs.Reads.{lines_of, next_by, times_by}
 use Rattle.cert_text.specs.ScenarioLines.{node_line}
 use Rattle.cert_text.specs.Sections.{entered_from}
-use Rattle.cert_text.proofs.Times.{with_front}
+use Rattle.cert_text.proofs.RepeatedReadsGoOn.{with_front}
 use Rattle.cert_text.proofs.reading.scenarios.entered.Given as goal
 
 abbrev pub invariant-loop-place : goal.invariant-loop-place

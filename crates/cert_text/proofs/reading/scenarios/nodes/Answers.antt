@@ -1,5 +1,5 @@
 use Rattle.std.proofs.Common.{arith}
-use Rattle.cert_text.proofs.Texts.{nodes-end}
+use Rattle.cert_text.proofs.PiecesMakeTexts.{nodes-end}
 use Rattle.cert_text.proofs.reading.scenarios.nodes.Goals as goal
 
 pub returns-clause-text : goal.returns-clause-text

@@ -1,8 +1,8 @@
 use Rattle.std.proofs.lemmas.Result.{err_from_is_err_and}
 use Rattle.cert_text.specs.NumberLines.{numbers_line}
 use Rattle.cert_text.specs.Spellable.{AreStarts}
-use Rattle.cert_text.proofs.Texts.{read-more, all-pushed}
-use Rattle.cert_text.proofs.Times.{actors-more, actors-fails, actors-ends}
+use Rattle.cert_text.proofs.PiecesMakeTexts.{read-more, all-pushed}
+use Rattle.cert_text.proofs.RepeatedReadsGoOn.{actors-more, actors-fails, actors-ends}
 use Rattle.cert_text.proofs.reading.schedules.actors.Goals as goal
 
 pub actors-preserved : goal.actors-preserved

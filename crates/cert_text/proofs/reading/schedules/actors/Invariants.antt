@@ -4,7 +4,7 @@ use Rattle.cert_text.specs.NumberLines.{numbers_line}
 use Rattle.cert_text.specs.Reads.{lines_of}
 use Rattle.cert_text.specs.Sections.{actors_from}
 use Rattle.cert_text.specs.Spellable.{AreStarts}
-use Rattle.cert_text.proofs.Times.{with_front}
+use Rattle.cert_text.proofs.RepeatedReadsGoOn.{with_front}
 use Rattle.cert_text.proofs.reading.schedules.actors.Given as goal
 
 abbrev pub invariant-actors : goal.invariant-actors

@@ -1,9 +1,9 @@
 use Rattle.std.proofs.Common.{◌∙◌, arith}
 use Rattle.std.proofs.lemmas.Result.{err_from_is_err_and}
-use Rattle.sd_base.proofs.Lists.{many-more}
+use Rattle.sd_base.proofs.ElementsKeepPlaces.{many-more}
 use Rattle.cert_text.specs.CycleLines.{cycle_lines}
 use Rattle.cert_text.specs.Spellable.{IsCycleText}
-use Rattle.cert_text.proofs.Texts.{read-more, all-pushed}
+use Rattle.cert_text.proofs.PiecesMakeTexts.{read-more, all-pushed}
 use Rattle.cert_text.proofs.FoundCycles.{differ-more, cycles-more, cycles-fails, cycles-ends}
 use Rattle.cert_text.proofs.reading.trade_offs.each_cycle.Goals as goal
 

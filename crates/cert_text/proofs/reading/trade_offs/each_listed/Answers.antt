@@ -3,7 +3,7 @@ use Rattle.std.specs.List.{flat_map}
 use Rattle.std.proofs.lemmas.List.{append-nil}
 use Rattle.std.proofs.lemmas.List.Elements.{All-nil}
 use Rattle.std.proofs.lemmas.Result.{err_from_is_err_and}
-use Rattle.sd_base.proofs.Lists.{many-more}
+use Rattle.sd_base.proofs.ElementsKeepPlaces.{many-more}
 use Rattle.cert_text.specs.declared.certificates.LinkCycle.{LinkCycle}
 use Rattle.cert_text.specs.declared.certificates.MemberLine.{MemberLine}
 use Rattle.cert_text.specs.MemberLines.{member_lines}
@@ -13,8 +13,8 @@ use Rattle.cert_text.specs.Sections.{listed_from, member_from}
 use Rattle.cert_text.specs.Spellable.{AreShown, IsCycleText}
 use Rattle.cert_text.proofs.FoundCycles.{with_members, handing-start, handing-more, handing-fails, handing-ends}
 use Rattle.cert_text.proofs.ListedCycles.{text-grown}
-use Rattle.cert_text.proofs.Texts.{read-more, all-pushed}
-use Rattle.cert_text.proofs.Uses.{none-used, used-pushed}
+use Rattle.cert_text.proofs.PiecesMakeTexts.{read-more, all-pushed}
+use Rattle.cert_text.proofs.MembersNameInOrder.{none-used, used-pushed}
 use Rattle.cert_text.proofs.reading.trade_offs.each_listed.Goals as goal
 
 pub loop-place-init : goal.loop-place-init

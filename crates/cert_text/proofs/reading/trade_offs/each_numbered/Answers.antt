@@ -1,11 +1,11 @@
 use Rattle.std.proofs.Common.{◌∙◌, ap, sym, subst, ◌-◌, ◌++◌, All, List, length}
 use Rattle.std.specs.List.{flat_map}
 use Rattle.std.proofs.lemmas.List.Elements.{All-nil}
-use Rattle.sd_base.proofs.Lists.{many-more}
+use Rattle.sd_base.proofs.ElementsKeepPlaces.{many-more}
 use Rattle.cert_text.specs.MemberLines.{member_lines}
 use Rattle.cert_text.specs.Spellable.{AreShown}
-use Rattle.cert_text.proofs.Texts.{read-more, all-pushed}
-use Rattle.cert_text.proofs.Uses.{none-used, used-pushed}
+use Rattle.cert_text.proofs.PiecesMakeTexts.{read-more, all-pushed}
+use Rattle.cert_text.proofs.MembersNameInOrder.{none-used, used-pushed}
 use Rattle.std.proofs.lemmas.Result.{err_from_is_err_and}
 use Rattle.cert_text.specs.declared.certificates.MemberLine.{MemberLine}
 use Rattle.cert_text.specs.Reads.{lines_of, handing}

@@ -1,4 +1,4 @@
-use Rattle.cert_text.proofs.Wholes.{storage-whole}
+use Rattle.cert_text.proofs.LinesMakeCertificates.{storage-whole}
 use Rattle.cert_text.proofs.reading.trade_offs.storage_certificate.Goals as goal
 
 pub returns-clause-text : goal.returns-clause-text

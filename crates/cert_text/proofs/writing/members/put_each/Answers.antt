@@ -1,7 +1,7 @@
 use Rattle.std.proofs.lemmas.List.Elements.{All-more}
-use Rattle.sd_base.proofs.Lists.{flat_next, flat_end}
+use Rattle.sd_base.proofs.ElementsKeepPlaces.{flat_next, flat_end}
 use Rattle.cert_text.specs.MemberLines.{capacity_text}
-use Rattle.cert_text.proofs.Texts.{all-end}
+use Rattle.cert_text.proofs.PiecesMakeTexts.{all-end}
 use Rattle.cert_text.proofs.writing.members.put_each.Goals as goal
 use Rattle.cert_text.specs.Limits.{IsCapacityWithin}
 

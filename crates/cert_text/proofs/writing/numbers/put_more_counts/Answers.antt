@@ -1,6 +1,6 @@
-use Rattle.sd_base.proofs.Lists.{flat_end}
+use Rattle.sd_base.proofs.ElementsKeepPlaces.{flat_end}
 use Rattle.cert_text.specs.NumberLines.{spaced}
-use Rattle.cert_text.proofs.Texts.{all-end}
+use Rattle.cert_text.proofs.PiecesMakeTexts.{all-end}
 use Rattle.cert_text.proofs.writing.numbers.put_more_counts.Goals as goal
 use Rattle.cert_text.specs.Limits.{IsLong}
 

@@ -1,4 +1,4 @@
-use Rattle.sd_base.proofs.Lists.{flat_end}
+use Rattle.sd_base.proofs.ElementsKeepPlaces.{flat_end}
 use Rattle.cert_text.specs.NumberLines.{spaced}
 use Rattle.cert_text.proofs.writing.numbers.put_more_starts.Goals as goal
 

@@ -3,10 +3,10 @@ use Rattle.std.specs.List.{flat_map}
 use Rattle.std.specs.String.{string_bytes}
 use Rattle.std.proofs.lemmas.Result.{err_from_is_err_and}
 use Rattle.std.proofs.lemmas.List.Elements.{All-more}
-use Rattle.sd_base.proofs.Lists.{flat_next, flat_end}
+use Rattle.sd_base.proofs.ElementsKeepPlaces.{flat_next, flat_end}
 use Rattle.cert_text.proofs.GivenUp.{up-at}
 use Rattle.cert_text.specs.ScenarioLines.{potential_line}
-use Rattle.cert_text.proofs.Texts.{all-end}
+use Rattle.cert_text.proofs.PiecesMakeTexts.{all-end}
 use Rattle.cert_text.proofs.writing.scenarios.put_each.Goals as goal
 use Rattle.cert_text.specs.Limits.{IsPotentialWithin}
 

@@ -2,10 +2,10 @@ use Rattle.std.proofs.Common.{◌≡◌, ◌+◌, ◌++◌, ◌∙◌, ℕ, List
 use Rattle.std.specs.List.{flat_map}
 use Rattle.std.specs.String.{string_bytes}
 use Rattle.std.proofs.lemmas.Result.{err_from_is_err_and}
-use Rattle.sd_base.proofs.Lists.{flat_end}
+use Rattle.sd_base.proofs.ElementsKeepPlaces.{flat_end}
 use Rattle.cert_text.proofs.GivenUp.{up-at}
 use Rattle.cert_text.specs.NumberLines.{numbers_line}
-use Rattle.cert_text.proofs.Texts.{flat-item}
+use Rattle.cert_text.proofs.PiecesMakeTexts.{flat-item}
 use Rattle.cert_text.proofs.writing.schedules.put_actors.Goals as goal
 
 pub returns-clause-text : goal.returns-clause-text

@@ -2,10 +2,10 @@ use Rattle.std.proofs.Common.{◌≡◌, ◌+◌, ◌++◌, take}
 use Rattle.std.specs.List.{flat_map}
 use Rattle.std.specs.String.{string_bytes}
 use Rattle.std.proofs.lemmas.Result.{err_from_is_err_and}
-use Rattle.sd_base.proofs.Lists.{flat_end}
+use Rattle.sd_base.proofs.ElementsKeepPlaces.{flat_end}
 use Rattle.cert_text.proofs.GivenUp.{up-at, up-in}
 use Rattle.cert_text.specs.CycleLines.{cycle_lines}
-use Rattle.cert_text.proofs.Texts.{all-end, all-item, flat-item}
+use Rattle.cert_text.proofs.PiecesMakeTexts.{all-end, all-item, flat-item}
 use Rattle.cert_text.proofs.writing.trade_offs.put_each_cycle.Goals as goal
 use Rattle.cert_text.specs.Limits.{IsCycleWithin}
 

@@ -1,6 +1,6 @@
 use Rattle.std.proofs.Common.{length}
-use Rattle.cert_text.proofs.Uses.{names}
-use Rattle.cert_text.proofs.Within.{lists-within}
+use Rattle.cert_text.proofs.MembersNameInOrder.{names}
+use Rattle.cert_text.proofs.WrittenIsWithinLimits.{lists-within}
 use Rattle.cert_text.proofs.writing.trade_offs.put_storage_certificate.Goals as goal
 
 pub put_lists-requires : goal.put_lists-requires

@@ -1,13 +1,13 @@
 use Rattle.std.proofs.Common.{◌∙◌, arith}
-use Rattle.completion.proofs.Timing.{full}
+use Rattle.completion.proofs.TimetablesTellStarts.{full}
 use Rattle.completion.proofs.WalkSteps.{numbers-order, kept-walk}
 use Rattle.completion.proofs.walk.Walk.look_back.Goals as goal
 
-pub laps-requires-clause-full : goal.laps-requires-clause-full
-laps-requires-clause-full g c = full (g.F.Firing.net c.args.net.now) c.args.times.now c.requires.times
+pub segments-requires-clause-full : goal.segments-requires-clause-full
+segments-requires-clause-full g c = full (g.F.Firing.net c.args.net.now) c.args.times.now c.requires.times
 
-pub laps-requires-clause-order : goal.laps-requires-clause-order
-laps-requires-clause-order g c =
+pub segments-requires-clause-order : goal.segments-requires-clause-order
+segments-requires-clause-order g c =
     let walk = c.args.self.now in
     numbers-order (g.F.Firing.net c.args.net.now) c.args.times.now c.requires.times walk.here walk.kept c.requires.walk.here c.requires.walk.kept c.requires.order
 
@@ -21,4 +21,4 @@ pub returns-else-self-gt1-clause-walk : goal.returns-else-self-gt1-clause-walk
 returns-else-self-gt1-clause-walk g c =
     let walk = c.args.self.now in
     kept-walk (g.F.Firing.net c.args.net.now) c.args.times.now c.requires.times walk.last walk.here walk.parts.items c.requires.walk.rounds c.requires.walk.few c.requires.walk.last c.requires.walk.soon c.requires.walk.here c.requires.walk.way
-    c.keep.new.self c.keep.ensures.last c.keep.ensures.here c.keep.ensures.parts c.keep.ensures.kept (c.keep.ensures.actors ∙ c.requires.walk.lap.actors) (λ a actor. c.keep.ensures.lap a (omega (arith, actor, c.requires.walk.lap.actors)))
+    c.keep.new.self c.keep.ensures.last c.keep.ensures.here c.keep.ensures.parts c.keep.ensures.kept (c.keep.ensures.actors ∙ c.requires.walk.segment.actors) (λ a actor. c.keep.ensures.segment a (omega (arith, actor, c.requires.walk.segment.actors)))

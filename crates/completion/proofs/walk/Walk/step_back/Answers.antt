@@ -3,10 +3,10 @@ use Rattle.sd_base.specs.declared.limits.TheConstants.{TIME}
 use Rattle.std.proofs.lemmas.List.{take_at}
 use Rattle.completion.specs.Ways.{firing_time}
 use Rattle.completion.specs.inside.Timetables.{firing_of}
-use Rattle.completion.specs.inside.Walks.{IsLap, IsWayTo}
-use Rattle.completion.proofs.Counted.{counted-is, more}
-use Rattle.completion.proofs.WalkSteps.{way-within, way-few, way-soon, lap-few, lap-soon, way-more, lap-more, need-sooner, short-time}
-use Rattle.completion.proofs.Needing.{first-tight}
+use Rattle.completion.specs.inside.Walks.{IsSegment, IsWayTo}
+use Rattle.completion.proofs.PartsCountFirings.{counted-is, more}
+use Rattle.completion.proofs.WalkSteps.{way-within, way-few, way-soon, segment-few, segment-soon, way-more, segment-more, need-sooner, short-time}
+use Rattle.completion.proofs.TightNeedsExist.{first-tight}
 use Rattle.completion.proofs.walk.Walk.step_back.Goals as goal
 
 pub tight_need-here-requires-clause-within : goal.tight_need-here-requires-clause-within
@@ -30,12 +30,12 @@ count-requires-clause-soon g c =
 pub count-requires-2-clause-few : goal.count-requires-2-clause-few
 count-requires-2-clause-few g c =
     let walk = c.args.self.now in
-    rw c.deref_mut-2.ensures.value (omega (arith, lap-few (g.F.Firing.net c.args.wired.now.net.now) c.args.times.now c.requires.times walk c.requires.walk c.tight_need-here.result.actor c.tight_need-here.ensures.start.actor))
+    rw c.deref_mut-2.ensures.value (omega (arith, segment-few (g.F.Firing.net c.args.wired.now.net.now) c.args.times.now c.requires.times walk c.requires.walk c.tight_need-here.result.actor c.tight_need-here.ensures.start.actor))
 
 pub count-requires-2-clause-soon : goal.count-requires-2-clause-soon
 count-requires-2-clause-soon g c =
     let walk = c.args.self.now in
-    rw c.deref_mut-2.ensures.value (omega (arith, lap-soon (g.F.Firing.net c.args.wired.now.net.now) c.args.times.now c.requires.times walk c.requires.walk c.tight_need-here.result.actor c.tight_need-here.ensures.start.actor, c.requires.walk.soon, c.time_at-time.ensures.short))
+    rw c.deref_mut-2.ensures.value (omega (arith, segment-soon (g.F.Firing.net c.args.wired.now.net.now) c.args.times.now c.requires.times walk c.requires.walk c.tight_need-here.result.actor c.tight_need-here.ensures.start.actor, c.requires.walk.soon, c.time_at-time.ensures.short))
 
 pub returns-clause-walk : goal.returns-clause-walk
 returns-clause-walk g c =
@@ -43,11 +43,11 @@ returns-clause-walk g c =
     let walk = c.args.self.now in
     let needed = c.tight_need-here.result in
     let size : length c.count.new.parts ≡ walk.parts.len = omega (arith, c.count.auto.parts, c.deref_mut.ensures.len) in
-    let size_lap : length c.count-2.new.parts ≡ walk.lap.len = omega (arith, c.count-2.auto.parts, c.deref_mut-2.ensures.len) in
+    let size_segment : length c.count-2.new.parts ≡ walk.segment.len = omega (arith, c.count-2.auto.parts, c.deref_mut-2.ensures.len) in
     let is : c.count.new.parts ≡ set walk.parts.items needed.actor (more net walk.parts.items (firing_of needed)) =
     counted-is net c.deref_mut.result.now c.count.new.parts walk.parts.items (firing_of needed) c.time_at-time.result c.deref_mut.ensures.value c.time_at-time.ensures.time c.count.ensures in
-    let is_lap : c.count-2.new.parts ≡ set walk.lap.items needed.actor (more net walk.lap.items (firing_of needed)) =
-    counted-is net c.deref_mut-2.result.now c.count-2.new.parts walk.lap.items (firing_of needed) c.time_at-time.result c.deref_mut-2.ensures.value c.time_at-time.ensures.time c.count-2.ensures in
+    let is_segment : c.count-2.new.parts ≡ set walk.segment.items needed.actor (more net walk.segment.items (firing_of needed)) =
+    counted-is net c.deref_mut-2.result.now c.count-2.new.parts walk.segment.items (firing_of needed) c.time_at-time.result c.deref_mut-2.ensures.value c.time_at-time.ensures.time c.count-2.ensures in
     record {
       rounds = c.requires.walk.rounds;
       few = c.requires.walk.few;
@@ -57,7 +57,7 @@ returns-clause-walk g c =
       kept = c.requires.walk.kept;
       since = c.requires.walk.since;
       way = subst (IsWayTo net walk.last needed) (sym (take_at c.count.new.parts _ walk.parts.len size ∙ is)) (way-more net c.args.times.now c.requires.times walk.here needed c.tight_need-here.ensures.need.need (first-tight net c.args.times.now c.requires.times walk.here needed c.requires.walk.here c.tight_need-here.ensures.start c.tight_need-here.ensures.need) walk.last walk.parts.items c.tight_need-here.ensures.start.actor c.requires.walk.way);
-      lap = subst (IsLap net needed walk.kept) (sym (take_at c.count-2.new.parts _ walk.lap.len size_lap ∙ is_lap)) (lap-more net c.args.times.now c.requires.times walk.here needed c.tight_need-here.ensures.need.need (first-tight net c.args.times.now c.requires.times walk.here needed c.requires.walk.here c.tight_need-here.ensures.start c.tight_need-here.ensures.need) walk.kept walk.lap.items c.tight_need-here.ensures.start.actor c.requires.walk.lap);
+      segment = subst (IsSegment net needed walk.kept) (sym (take_at c.count-2.new.parts _ walk.segment.len size_segment ∙ is_segment)) (segment-more net c.args.times.now c.requires.times walk.here needed c.tight_need-here.ensures.need.need (first-tight net c.args.times.now c.requires.times walk.here needed c.requires.walk.here c.tight_need-here.ensures.start c.tight_need-here.ensures.need) walk.kept walk.segment.items c.tight_need-here.ensures.start.actor c.requires.walk.segment);
     }
 
 pub returns-clause-back : goal.returns-clause-back
@@ -67,4 +67,4 @@ returns-clause-back g c =
 pub returns-clause-order : goal.returns-clause-order
 returns-clause-order g c =
     let sooner = need-sooner (g.F.Firing.net c.args.wired.now.net.now) c.args.times.now c.requires.times c.args.self.now.here c.tight_need-here.result c.tight_need-here.ensures.need.need c.tight_need-here.ensures.start.actor in
-    omega (arith, sooner, c.requires.walk.lap.time)
+    omega (arith, sooner, c.requires.walk.segment.time)

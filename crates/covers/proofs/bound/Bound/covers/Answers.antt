@@ -1,7 +1,7 @@
 use Rattle.std.proofs.Common.{rules, arith}
 use Rattle.std.proofs.lemmas.List.Elements.{All-more}
 use Rattle.covers.specs.Bounds.{IsWithin}
-use Rattle.covers.proofs.Places.{all-done, within-here}
+use Rattle.covers.proofs.ChangesKeepOrder.{all-done, within-here}
 use Rattle.covers.proofs.bound.Bound.covers.Goals as goal
 
 pub loop-cap-preserved : goal.loop-cap-preserved

@@ -2,7 +2,7 @@ use Rattle.std.proofs.Common.{◌≡◌, ◌-◌, drop, length, length-drop, sym
 use Rattle.std.specs.Prelude.{All}
 use Rattle.std.proofs.lemmas.List.{take_all}
 use Rattle.covers.specs.Bounds.{IsWithin}
-use Rattle.covers.proofs.Dominated.{within-more}
+use Rattle.covers.proofs.FewBoundsSuffice.{within-more}
 use Rattle.covers.proofs.bound.Bound.covers_all_of.Goals as goal
 use Rattle.covers.proofs.bound.Bound.covers_all_of.Goals.{then-first-cap-2+then-cap-first, else-first-cap-2}
 

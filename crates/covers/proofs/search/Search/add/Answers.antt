@@ -1,7 +1,7 @@
 use Rattle.std.proofs.Common.{List, [], ◌∷◌, ◌++◌, refl, sym, ap, ◌∙◌, subst}
 use Rattle.covers.specs.declared.bound.Bound.{Bound}
 use Rattle.covers.specs.Bounds.{AreEnough, IsCovered}
-use Rattle.covers.proofs.Forces.{covered-added, searched-more}
+use Rattle.covers.proofs.BoundsStayInForce.{covered-added, searched-more}
 use Rattle.covers.proofs.search.Search.add.Goals as goal
 
 pub returns-in_err-push-clause-searched : goal.returns-in_err-push-clause-searched

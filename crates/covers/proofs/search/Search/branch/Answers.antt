@@ -6,7 +6,7 @@ use Rattle.covers.specs.declared.search.Search.{Search}
 use Rattle.covers.specs.declared.survey.Toll.{Toll}
 use Rattle.covers.specs.inside.Keeping.{IsBranched}
 use Rattle.covers.specs.inside.Surveys.{IsLeast, IsTollAt}
-use Rattle.covers.proofs.Kept.{closed}
+use Rattle.covers.proofs.NoVectorIsLost.{closed}
 use Rattle.covers.proofs.LookedAt.{dear, found, raised-by}
 use Rattle.covers.proofs.search.Search.branch.Goals as goal
 use Rattle.covers.proofs.search.Search.branch.Goals.{then-rank-node+in_ok-raise, else-rank-node+in_ok-part}

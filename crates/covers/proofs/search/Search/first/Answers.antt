@@ -1,7 +1,7 @@
 use Rattle.std.proofs.Common.{◌≡◌, ℕ, List, Some, sym, subst, rules}
 use Rattle.covers.specs.Searches.{IsFirst}
-use Rattle.covers.proofs.Answering.{first-of, searched-first, searched-kept, settled-past}
-use Rattle.covers.proofs.Kept.{same-trans}
+use Rattle.covers.proofs.FoundNodesDecide.{first-of, searched-first, searched-kept, settled-past}
+use Rattle.covers.proofs.NoVectorIsLost.{same-trans}
 use Rattle.covers.proofs.search.Search.first.Goals as goal
 
 pub returns-in_default-clause-searched : goal.returns-in_default-clause-searched

@@ -1,7 +1,7 @@
 use Rattle.std.proofs.Common.{refl}
 use Rattle.covers.specs.Nodes.{IsProper}
-use Rattle.covers.proofs.Gathering.{gathered-all, gathering-more, gathering-none}
-use Rattle.covers.proofs.Kept.{All-right, enough-same, proper-same, same-trans}
+use Rattle.covers.proofs.NodesGather.{gathered-all, gathering-more, gathering-none}
+use Rattle.covers.proofs.NoVectorIsLost.{All-right, enough-same, proper-same, same-trans}
 use Rattle.covers.proofs.search.Search.gather.Goals as goal
 
 pub gather-init : goal.gather-init

@@ -1,6 +1,6 @@
 use Rattle.std.proofs.Common.{◌-◌, length}
 use Rattle.covers.specs.Searches.{IsSame}
-use Rattle.covers.proofs.Gathering.{IsGathering}
+use Rattle.covers.proofs.NodesGather.{IsGathering}
 use Rattle.covers.proofs.search.Search.gather.Given as goal
 
 abbrev pub invariant-gather : goal.invariant-gather

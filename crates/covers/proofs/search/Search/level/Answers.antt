@@ -4,8 +4,8 @@ use Rattle.covers.specs.declared.node.Node.{Node}
 use Rattle.covers.specs.Nodes.{IsProper}
 use Rattle.covers.specs.Searches.{IsSame}
 use Rattle.covers.specs.inside.Keeping.{IsGathered}
-use Rattle.covers.proofs.Answering.{levelled, row, searched-again, searched-kept, settled-past, some-found}
-use Rattle.covers.proofs.Kept.{enough-same, proper-same, same-trans}
+use Rattle.covers.proofs.FoundNodesDecide.{levelled, row, searched-again, searched-kept, settled-past, some-found}
+use Rattle.covers.proofs.NoVectorIsLost.{enough-same, proper-same, same-trans}
 use Rattle.covers.proofs.search.Search.level.Goals as goal
 
 pub returns-in_default-clause-searched : goal.returns-in_default-clause-searched

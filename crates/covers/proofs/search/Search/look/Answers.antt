@@ -2,7 +2,7 @@ use Rattle.std.proofs.Common.{◌≡◌, ◌<◌, ℕ, List, refl, ap, ◌∙◌
 use Rattle.covers.specs.Lattices.{storage_of}
 use Rattle.covers.specs.declared.bound.Bound.{Bound}
 use Rattle.covers.specs.inside.Surveys.{AllCovered}
-use Rattle.covers.proofs.Kept.{closed}
+use Rattle.covers.proofs.NoVectorIsLost.{closed}
 use Rattle.covers.proofs.LookedAt.{begins, beyond, raised-by}
 use Rattle.covers.proofs.search.Search.look.Goals as goal
 

@@ -1,5 +1,5 @@
 use Rattle.std.proofs.Common.{ap}
-use Rattle.covers.proofs.Kept.{narrowed}
+use Rattle.covers.proofs.NoVectorIsLost.{narrowed}
 use Rattle.covers.proofs.search.Search.narrow.Goals as goal
 
 pub returns-clause-looked : goal.returns-clause-looked

@@ -2,7 +2,7 @@ use Rattle.std.proofs.Common.{List, ap, ◌∙◌}
 use Rattle.std.specs.BTreeSet.{insert_key}
 use Rattle.covers.specs.declared.node.Node.{Node}
 use Rattle.covers.specs.inside.NodeOrder.{node_cmp}
-use Rattle.covers.proofs.Answering.{searched-root}
+use Rattle.covers.proofs.FoundNodesDecide.{searched-root}
 use Rattle.covers.proofs.search.Search.new.Goals as goal
 
 pub returns-clause-searched : goal.returns-clause-searched

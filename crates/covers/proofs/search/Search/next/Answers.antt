@@ -6,7 +6,7 @@ use Rattle.covers.specs.declared.search.Order.{Order}
 use Rattle.covers.specs.Nodes.{IsProper}
 use Rattle.covers.specs.Searches.{IsSame}
 use Rattle.covers.specs.inside.Keeping.{IsKept, known}
-use Rattle.covers.proofs.Kept.{enough-same, kept-known, kept-trans, same-trans}
+use Rattle.covers.proofs.NoVectorIsLost.{enough-same, kept-known, kept-trans, same-trans}
 use Rattle.covers.proofs.search.Search.next.Goals as goal
 
 pub look-requires-clause-proper : goal.look-requires-clause-proper

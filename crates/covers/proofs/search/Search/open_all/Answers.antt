@@ -2,7 +2,7 @@ use Rattle.std.proofs.Common.{List, sym, ap, ◌∙◌}
 use Rattle.std.specs.BTreeSet.{insert_key}
 use Rattle.covers.specs.declared.node.Node.{Node}
 use Rattle.covers.specs.inside.NodeOrder.{node_cmp}
-use Rattle.covers.proofs.Inserting.{put-push}
+use Rattle.covers.proofs.InsertsKeepNodes.{put-push}
 use Rattle.covers.proofs.search.Search.open_all.Goals as goal
 
 pub loop-node-preserved : goal.loop-node-preserved

@@ -2,8 +2,8 @@ use Rattle.std.proofs.Common.{◌≡◌, subst, sym, rules}
 use Rattle.std.specs.Prelude.{slice_index_or}
 use Rattle.covers.specs.declared.bound.Bound.{Bound}
 use Rattle.covers.specs.Bounds.{IsInForce}
-use Rattle.covers.proofs.Kept.{parted}
-use Rattle.covers.proofs.Surveying.{covered-here}
+use Rattle.covers.proofs.NoVectorIsLost.{parted}
+use Rattle.covers.proofs.BoundsNarrowNodes.{covered-here}
 use Rattle.covers.proofs.search.Search.part.Goals as goal
 
 pub returns-clause-looked : goal.returns-clause-looked

@@ -1,7 +1,7 @@
 use Rattle.std.proofs.Common.{refl, rules}
 use Rattle.covers.specs.Bounds.{IsAtMost}
-use Rattle.covers.proofs.Dominated.{enough-reached}
-use Rattle.covers.proofs.Forces.{covered-reached, searched-more}
+use Rattle.covers.proofs.FewBoundsSuffice.{enough-reached}
+use Rattle.covers.proofs.BoundsStayInForce.{covered-reached, searched-more}
 use Rattle.covers.proofs.search.Search.reach.Goals as goal
 
 pub returns-then-matches-clause-searched : goal.returns-then-matches-clause-searched

@@ -1,7 +1,7 @@
 use Rattle.std.proofs.Common.{List, subst, sym, arith}
 use Rattle.critical.specs.declared.cycle.CycleStep.{CycleStep}
 use Rattle.critical.specs.Cycles.{IsChain}
-use Rattle.critical.proofs.Spans.{first-actor}
+use Rattle.critical.proofs.FiringsStandApart.{first-actor}
 use Rattle.critical.proofs.cycle.NeedCycle.holds.Goals as goal
 
 pub closes_at-requires : goal.closes_at-requires

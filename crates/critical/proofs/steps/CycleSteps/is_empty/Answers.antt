@@ -2,7 +2,7 @@ use Rattle.std.proofs.Common.{ap, ◌∙◌, List, length}
 use Rattle.std.specs.Prelude.{◌==◌}
 use Rattle.critical.specs.declared.cycle.CycleStep.{CycleStep}
 use Rattle.critical.specs.declared.stretch.Stretch.{Stretch}
-use Rattle.critical.proofs.Stretches.{none-where_none}
+use Rattle.critical.proofs.StretchesGiveSteps.{none-where_none}
 use Rattle.critical.proofs.steps.CycleSteps.is_empty.Goals as goal
 
 pub returns : goal.returns

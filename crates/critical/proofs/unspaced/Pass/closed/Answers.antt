@@ -1,7 +1,7 @@
 use Rattle.std.proofs.Common.{List, subst, sym}
 use Rattle.critical.specs.declared.walk.Met.{Met}
 use Rattle.critical.specs.inside.Trails.{ComesAgain, GoesAlong}
-use Rattle.critical.proofs.Unspacing.{round-unspaced}
+use Rattle.critical.proofs.CyclesAvoidSpaces.{round-unspaced}
 use Rattle.critical.proofs.unspaced.Pass.closed.Goals as goal
 
 pub closed_cycle-requires-clause-again : goal.closed_cycle-requires-clause-again

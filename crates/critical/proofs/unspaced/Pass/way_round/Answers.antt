@@ -1,5 +1,5 @@
 use Rattle.std.proofs.Common.{arith}
-use Rattle.critical.proofs.Passes.{actors-same}
+use Rattle.critical.proofs.PassesRepeat.{actors-same}
 use Rattle.critical.proofs.SearchTurns.{ranks-all, marked-actor}
 use Rattle.critical.proofs.unspaced.Pass.way_round.Goals as goal
 

@@ -1,5 +1,5 @@
 use Rattle.std.proofs.Common.{refl}
-use Rattle.evaluations.proofs.Tasks.{run-answer}
+use Rattle.evaluations.proofs.FreshTasksFinish.{run-answer}
 use Rattle.evaluations.proofs.task.TaskJob.run.Goals as goal
 
 pub returns : goal.returns

@@ -1,7 +1,7 @@
 use Rattle.std.proofs.Common.{◌≡◌, length, drop, arith}
 use Rattle.std.proofs.lemmas.List.{take_at}
 use Rattle.event_loops.specs.inside.Collecting.{AddsStarts}
-use Rattle.event_loops.proofs.Traced.{before-counts, before-fewer, trace-next}
+use Rattle.event_loops.proofs.TracesFollowEvents.{before-counts, before-fewer, trace-next}
 use Rattle.event_loops.proofs.trace.Trace.add.Goals as goal
 
 pub add_starts-requires-clause-fewer : goal.add_starts-requires-clause-fewer

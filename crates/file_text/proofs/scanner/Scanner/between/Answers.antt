@@ -1,7 +1,7 @@
 use Rattle.std.proofs.Common.{sym, ◌∙◌, subst, Some}
 use Rattle.file_text.specs.inside.Machine.{Step, Takes}
 use Rattle.file_text.specs.inside.Seen.{around_of, state_of}
-use Rattle.file_text.proofs.Sees.{inside, between_inside}
+use Rattle.file_text.proofs.ReaderMatchesMachine.{inside, between_inside}
 use Rattle.file_text.proofs.scanner.Scanner.between.Goals as goal
 
 pub returns-else-is_empty : goal.returns-else-is_empty

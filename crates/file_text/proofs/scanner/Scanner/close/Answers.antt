@@ -1,4 +1,4 @@
-use Rattle.file_text.proofs.Sees.{stack_on-push}
+use Rattle.file_text.proofs.ReaderMatchesMachine.{stack_on-push}
 use Rattle.file_text.proofs.scanner.Scanner.close.Goals as goal
 
 pub returns-in-Some : goal.returns-in-Some

@@ -1,6 +1,6 @@
 use Rattle.std.proofs.Common.{refl, sym}
 use Rattle.file_text.specs.inside.Seen.{around_of, name_in}
-use Rattle.file_text.proofs.Sees.{drop_some, drop_none, closing_other}
+use Rattle.file_text.proofs.ReaderMatchesMachine.{drop_some, drop_none, closing_other}
 use Rattle.file_text.proofs.scanner.Scanner.closing.Goals as goal
 
 pub returns-in-Some : goal.returns-in-Some

@@ -1,6 +1,6 @@
 use Rattle.std.proofs.Common.{◌≡◌, refl, ap}
 use Rattle.file_text.specs.declared.scanner.Scanner.{Scanner}
-use Rattle.file_text.proofs.Sees.{stack_on-push, open_of-around}
+use Rattle.file_text.proofs.ReaderMatchesMachine.{stack_on-push, open_of-around}
 use Rattle.file_text.proofs.scanner.Scanner.enter.Goals as goal
 
 pub returns : goal.returns

@@ -1,6 +1,6 @@
 use Rattle.std.proofs.Common.{◌≡◌, sym, ◌∙◌}
 use Rattle.file_text.specs.inside.Seen.{around_of, name_in}
-use Rattle.file_text.proofs.Sees.{innermost_name}
+use Rattle.file_text.proofs.ReaderMatchesMachine.{innermost_name}
 use Rattle.file_text.proofs.scanner.Scanner.innermost_name.Goals as goal
 
 pub returns-in-Some : goal.returns-in-Some

@@ -1,6 +1,6 @@
 use Rattle.std.proofs.Common.{sym, ◌∙◌}
 use Rattle.file_text.specs.inside.Seen.{around_of}
-use Rattle.file_text.proofs.Sees.{inside, inside_open}
+use Rattle.file_text.proofs.ReaderMatchesMachine.{inside, inside_open}
 use Rattle.file_text.proofs.scanner.Scanner.is_closed.Goals as goal
 
 pub returns-else-is_empty : goal.returns-else-is_empty

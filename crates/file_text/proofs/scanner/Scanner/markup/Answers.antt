@@ -1,6 +1,6 @@
 use Rattle.std.proofs.Common.{sym, ◌∙◌, refl}
 use Rattle.file_text.specs.inside.Seen.{around_of}
-use Rattle.file_text.proofs.Sees.{inside, closes_inside}
+use Rattle.file_text.proofs.ReaderMatchesMachine.{inside, closes_inside}
 use Rattle.file_text.proofs.scanner.Scanner.markup.Goals as goal
 
 pub returns-in-Slash : goal.returns-in-Slash

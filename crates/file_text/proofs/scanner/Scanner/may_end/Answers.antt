@@ -1,6 +1,6 @@
 use Rattle.std.proofs.Common.{sym, ◌∙◌}
 use Rattle.file_text.specs.inside.Seen.{around_of}
-use Rattle.file_text.proofs.Sees.{inside, inside_untold}
+use Rattle.file_text.proofs.ReaderMatchesMachine.{inside, inside_untold}
 use Rattle.file_text.proofs.scanner.Scanner.may_end.Goals as goal
 
 pub returns-in-Nothing-Between-clause-open : goal.returns-in-Nothing-Between-clause-open

@@ -1,5 +1,5 @@
 use Rattle.std.proofs.Common.{sym, ◌∙◌, refl, arith}
-use Rattle.file_text.proofs.Sees.{opens_deep, opens_here}
+use Rattle.file_text.proofs.ReaderMatchesMachine.{opens_deep, opens_here}
 use Rattle.file_text.proofs.scanner.Scanner.open.Goals as goal
 
 pub returns-then-len-ge-MOST_OPEN : goal.returns-then-len-ge-MOST_OPEN

@@ -1,5 +1,5 @@
 use Rattle.std.proofs.Common.{sym}
-use Rattle.firing.proofs.Singles.{single-length}
+use Rattle.firing.proofs.SinglesHaveOneNumber.{single-length}
 use Rattle.firing.proofs.sdf.SdfNetFiring.phases.Goals as goal
 
 pub returns : goal.returns

@@ -1,5 +1,5 @@
 use Rattle.firing.specs.declared.sums.Port.TheVariants.{Made, Taken}
-use Rattle.firing.proofs.Wirings.{grouped-listed, wired}
+use Rattle.firing.proofs.GroupsMakeWirings.{grouped-listed, wired}
 use Rattle.firing.proofs.wiring.Wiring.new.Goals as goal
 
 pub returns-clause-wired : goal.returns-clause-wired

@@ -3,7 +3,7 @@ use Rattle.std.specs.List.{IsDistinct, position}
 use Rattle.std.specs.Str.{bytes_eq}
 use Rattle.std.specs.String.{string_bytes}
 use Rattle.graph_reader.specs.Register.{tested}
-use Rattle.graph_reader.proofs.Registered.{alone, found-none, found-some, key-number}
+use Rattle.graph_reader.proofs.NamesFindRows.{alone, found-none, found-some, key-number}
 use Rattle.graph_reader.proofs.register.Register.find.Goals as goal
 
 pub returns-in_err-number-clause-row : goal.returns-in_err-number-clause-row

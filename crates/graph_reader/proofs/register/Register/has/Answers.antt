@@ -1,6 +1,6 @@
 use Rattle.std.proofs.Common.{◌∙◌}
 use Rattle.std.specs.String.{string_bytes}
-use Rattle.graph_reader.proofs.Registered.{key-among}
+use Rattle.graph_reader.proofs.NamesFindRows.{key-among}
 use Rattle.graph_reader.proofs.register.Register.has.Goals as goal
 
 pub returns : goal.returns

@@ -1,6 +1,6 @@
 use Rattle.std.proofs.Common.{◌∙◌}
 use Rattle.std.specs.String.{string_bytes}
-use Rattle.graph_reader.proofs.Registered.{key-number}
+use Rattle.graph_reader.proofs.NamesFindRows.{key-number}
 use Rattle.graph_reader.proofs.register.Register.number_of.Goals as goal
 
 pub returns : goal.returns

@@ -3,7 +3,7 @@ use Rattle.std.specs.List.{list_any}
 use Rattle.std.specs.String.{string_bytes}
 use Rattle.std.specs.Str.{bytes_eq}
 use Rattle.graph_reader.specs.Sections.{is_among}
-use Rattle.graph_reader.proofs.Registered.{key-among, named-more}
+use Rattle.graph_reader.proofs.NamesFindRows.{key-among, named-more}
 use Rattle.graph_reader.proofs.register.Register.with.Goals as goal
 
 pub invariant_of-result : goal.invariant_of-result

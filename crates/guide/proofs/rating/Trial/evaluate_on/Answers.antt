@@ -6,8 +6,8 @@ use Rattle.sd_base.specs.Connection.{IsConnected}
 use Rattle.firing.specs.Wiring.{IsWiringOf}
 use Rattle.liveness.specs.RoundAnswers.{AreReachedCounts}
 use Rattle.storage.specs.BoundedNets.{bound}
-use Rattle.guide.proofs.Evaluating.{bound-connected}
-use Rattle.guide.proofs.Reached.{reached-again}
+use Rattle.guide.proofs.LiveNetsAreEvaluated.{bound-connected}
+use Rattle.guide.proofs.ReachedCountsAreFound.{reached-again}
 use Rattle.guide.proofs.rating.Trial.evaluate_on.Goals as goal
 
 pub invariant_of-wired : goal.invariant_of-wired

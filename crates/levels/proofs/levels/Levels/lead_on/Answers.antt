@@ -5,8 +5,8 @@ use Rattle.storage.specs.Distributions.{storage_of}
 use Rattle.levels.specs.declared.levels.Bounds.{Bounds}
 use Rattle.levels.specs.Visits.{led_by}
 use Rattle.levels.specs.Frontiers.{IsOver, Rises}
-use Rattle.levels.proofs.LedOn.{ends-more, led-all, led-step, part-so-far, rises-part}
-use Rattle.levels.proofs.Spreading.{frontier-past, frontier-visit}
+use Rattle.levels.proofs.VisitsLeadOn.{ends-more, led-all, led-step, part-so-far, rises-part}
+use Rattle.levels.proofs.SearchesSpread.{frontier-past, frontier-visit}
 use Rattle.levels.proofs.levels.Levels.lead_on.Goals as goal
 
 pub loop-channel-preserved : goal.loop-channel-preserved
@@ -19,7 +19,7 @@ loop-channel-preserved g c =
     let more = c.lead_by.ensures.same in (
       λ cs over total rises.
           let mine : Rises cs (led_by c.args.from.now.capacities (slice_index_or c.args.enlarge.now c.loop-channel.channel-index 0 ∷ [])) = rises-part cs ds (slice_index_or xs n 0 ∷ []) xs (λ x has. part-so-far xs n x below has) rises in
-          led-step cs c.args.self.now.bounds.total c.loop-channel.self.bounds.total ds c.loop-channel.scratch.capacities xs n c.args.hint c.args.self.now.waiting.keys c.loop-channel.self.waiting.keys c.lead_by.new.self.waiting.keys below
+          led-step cs c.args.self.now.bounds.total c.loop-channel.self.bounds.total ds c.loop-channel.scratch.capacities xs n c.args.hint c.args.self.now.waiting c.loop-channel.self.waiting c.lead_by.new.self.waiting below
           c.loop-channel.invariant.1 (ap (λ (b : Bounds). b.total) same.bounds) (c.loop-channel.invariant.0 cs over total rises)
           (c.in_ok-scratch-2.ensures.led cs (subst (IsOver cs) (sym same.channels) over) (total ∙ ap (storage_of cs) (sym c.loop-channel.invariant.1))
           (subst (λ (es : List (Option ℕ)). Rises cs (led_by es (slice_index_or c.args.enlarge.now c.loop-channel.channel-index 0 ∷ []))) (sym c.loop-channel.invariant.1) mine)),
@@ -37,12 +37,12 @@ returns-in_err-scratch-2-clause-spent g c =
     let n = c.loop-channel.channel-index in
     let same = c.loop-channel.invariant.4 in
     rw (p.1, p.2) (λ cs start visits taken f total rises.
-    frontier-past cs start c.args.total visits taken (led_by ds xs) c.args.hint c.args.self.now c.lead_by.new.self c.in_err-scratch-2.field-0.0 total rises f
+    frontier-past cs start c.args.total visits taken (led_by ds xs) c.args.hint c.args.self.now c.in_err-scratch-2.field-0.0 total rises f
     (ends-more c.args.self.now.channels c.loop-channel.self.channels c.args.self.now.bounds c.loop-channel.self.bounds ds c.loop-channel.scratch.capacities xs n c.args.total c.args.hint c.args.self.now.found c.loop-channel.self.found
-    c.args.self.now.waiting.keys c.loop-channel.self.waiting.keys c.lead_by.new.self.waiting.keys c.in_err-scratch-2.field-0.0 (omega arith) c.loop-channel.invariant.1 same.channels same.bounds c.loop-channel.invariant.0 c.loop-channel.invariant.2 c.in_err-scratch-2.ensures.ended))
+    c.args.self.now.waiting c.loop-channel.self.waiting c.in_err-scratch-2.field-0.0 (omega arith) c.loop-channel.invariant.1 same.channels same.bounds c.loop-channel.invariant.0 c.loop-channel.invariant.2 c.in_err-scratch-2.ensures.ended))
 
 pub returns-clause-frontier : goal.returns-clause-frontier
 returns-clause-frontier g c = λ cs start visits taken f total rises.
     frontier-visit cs start c.args.total visits taken (led_by c.args.from.now.capacities c.args.enlarge.now) c.args.hint c.args.self.now c.loop-channel.self total rises f
-    (led-all cs c.args.self.now.bounds.total c.args.from.now.capacities c.args.enlarge.now c.loop-channel.channel-index c.args.hint c.args.self.now.waiting.keys c.loop-channel.self.waiting.keys (omega arith) (c.loop-channel.invariant.0 cs f.over total rises))
+    (led-all cs c.args.self.now.bounds.total c.args.from.now.capacities c.args.enlarge.now c.loop-channel.channel-index c.args.hint c.args.self.now.waiting c.loop-channel.self.waiting (omega arith) (c.loop-channel.invariant.0 cs f.over total rises))
     c.loop-channel.invariant.4 c.loop-channel.invariant.2 c.loop-channel.invariant.3

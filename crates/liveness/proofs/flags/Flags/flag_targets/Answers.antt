@@ -1,7 +1,7 @@
 use Rattle.std.proofs.Common.{◌<◌, length, sym, ◌∙◌, arith}
 use Rattle.std.specs.Prelude.{slice_index}
 use Rattle.liveness.specs.inside.Looks.{flag_of}
-use Rattle.liveness.proofs.Looking.{flags-more, stack-few, targets-more, targets-skip}
+use Rattle.liveness.proofs.LooksRunOut.{flags-more, stack-few, targets-more, targets-skip}
 use Rattle.liveness.proofs.flags.Flags.flag_targets.Goals.{then-target-actor+in_ok-flag, else-target-actor}
 use Rattle.liveness.proofs.flags.Flags.flag_targets.Goals as goal
 

@@ -1,6 +1,6 @@
 use Rattle.std.proofs.Common.{◌+◌, ◌≤◌, length}
 use Rattle.liveness.specs.inside.Looks.{AreFlags}
-use Rattle.liveness.proofs.Looking.{TargetsSoFar}
+use Rattle.liveness.proofs.LooksRunOut.{TargetsSoFar}
 use Rattle.liveness.proofs.flags.Flags.flag_targets.Given as goal
 
 abbrev pub invariant-loop-channel : goal.invariant-loop-channel

@@ -1,6 +1,6 @@
 use Rattle.std.proofs.Common.{sym, arith, true}
 use Rattle.std.proofs.lemmas.List.{replicate_more}
-use Rattle.sd_base.proofs.Lists.{range-more}
+use Rattle.sd_base.proofs.ElementsKeepPlaces.{range-more}
 use Rattle.liveness.proofs.flags.Flags.new.Goals as goal
 
 pub loop-actor-preserved : goal.loop-actor-preserved

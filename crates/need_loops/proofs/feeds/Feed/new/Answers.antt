@@ -1,5 +1,5 @@
 use Rattle.std.proofs.Common.{refl}
-use Rattle.need_loops.proofs.Fed.{some-first, first-feed, fed-next}
+use Rattle.need_loops.proofs.FeedsGoOn.{some-first, first-feed, fed-next}
 use Rattle.need_loops.proofs.feeds.Feed.new.Goals as goal
 
 pub advance-requires-clause-some : goal.advance-requires-clause-some

@@ -1,6 +1,6 @@
 use Rattle.std.proofs.Common.{◌+◌, ◌<◌, length, arith}
 use Rattle.need_loops.specs.inside.Needing.{IsFeedInto}
-use Rattle.need_loops.proofs.Fed.{some-made, small-made, small-taken, few-left, few-firings, advanced-more, feed-at, next-goes-on}
+use Rattle.need_loops.proofs.FeedsGoOn.{some-made, small-made, small-taken, few-left, few-firings, advanced-more, feed-at, next-goes-on}
 use Rattle.need_loops.proofs.feeds.NextFiring.advance.Given.{Over}
 use Rattle.need_loops.proofs.feeds.NextFiring.advance.Goals as goal
 

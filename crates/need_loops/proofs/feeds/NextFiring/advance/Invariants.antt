@@ -1,5 +1,5 @@
 use Rattle.std.proofs.Common.{◌≡◌}
-use Rattle.need_loops.proofs.Fed.{AreAdvanced}
+use Rattle.need_loops.proofs.FeedsGoOn.{AreAdvanced}
 use Rattle.need_loops.proofs.feeds.NextFiring.advance.Given as goal
 
 abbrev pub invariant-loop-place : goal.invariant-loop-place

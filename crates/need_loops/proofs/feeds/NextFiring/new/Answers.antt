@@ -1,5 +1,5 @@
 use Rattle.std.proofs.Common.{◌≡◌, ◌++◌, [], ◌∷◌}
-use Rattle.need_loops.proofs.Fed.{first-pause, first-push, first-next}
+use Rattle.need_loops.proofs.FeedsGoOn.{first-pause, first-push, first-next}
 use Rattle.need_loops.proofs.feeds.NextFiring.new.Goals as goal
 use Rattle.need_loops.proofs.feeds.NextFiring.new.Goals.{in-Some, in-None+in_ok-push-in-None}
 

@@ -1,4 +1,4 @@
-use Rattle.need_loops.proofs.Fed.{AreFirst}
+use Rattle.need_loops.proofs.FeedsGoOn.{AreFirst}
 use Rattle.need_loops.proofs.feeds.NextFiring.new.Given as goal
 
 abbrev pub invariant-loop-channel : goal.invariant-loop-channel

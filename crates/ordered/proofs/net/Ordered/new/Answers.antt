@@ -5,9 +5,9 @@ use Rattle.sd_base.specs.Schedules.{Admissible}
 use Rattle.ordered.specs.Orders.{KeepsOrders}
 use Rattle.ordered.specs.OrderedNets.{ordered}
 use Rattle.ordered.specs.inside.Places.{with_places}
-use Rattle.ordered.proofs.Keeping.{admissible-both, admissible-ordered}
-use Rattle.ordered.proofs.Lawfulness.{ordered-lawful}
-use Rattle.ordered.proofs.Parts.{parts-ordered, turns-of}
+use Rattle.ordered.proofs.AdmissibleKeepsOrders.{admissible-both, admissible-ordered}
+use Rattle.ordered.proofs.OrderedKeepsLaws.{ordered-lawful}
+use Rattle.ordered.proofs.PartsMatchPlainNet.{parts-ordered, turns-of}
 use Rattle.ordered.proofs.net.Ordered.new.Goals as goal
 
 pub invariant_of-result : goal.invariant_of-result

@@ -1,6 +1,6 @@
 use Rattle.std.proofs.Common.{◌∙◌, sym, ap, arith}
 use Rattle.sd_base.specs.Net.{Channel}
-use Rattle.ordered.proofs.Parts.{channel-is, kept-below, place-below}
+use Rattle.ordered.proofs.PartsMatchPlainNet.{channel-is, kept-below, place-below}
 use Rattle.ordered.proofs.net.OrderedFiring.tokens.Goals as goal
 
 pub index-requires : goal.index-requires

@@ -1,6 +1,6 @@
 use Rattle.std.proofs.Common.{◌≡◌, ℕ, length, refl, ap, ◌∙◌, subst, arith}
 use Rattle.pareto_search.specs.inside.Turns.{IsAbsorbed}
-use Rattle.pareto_search.proofs.Onward.{onward-on, onward-same}
+use Rattle.pareto_search.proofs.LearningKeepsTellings.{onward-on, onward-same}
 use Rattle.pareto_search.proofs.searching.Searching.absorb.Goals as goal
 
 pub loop-place-init : goal.loop-place-init

@@ -1,7 +1,7 @@
 use Rattle.std.proofs.Common.{◌≡◌, inl, inr, ⊎_elim, ap, ◌∙◌, subst}
 use Rattle.sd_base.specs.declared.numbers.Fraction.{Fraction}
 use Rattle.covers.specs.Bounds.{IsAtMost}
-use Rattle.pareto_search.proofs.Absorbed.{absorbed-with, onward-with}
+use Rattle.pareto_search.proofs.TellingsAreAbsorbed.{absorbed-with, onward-with}
 use Rattle.pareto_search.proofs.searching.Searching.absorb_one.Goals as goal
 
 pub returns-clause-absorbed : goal.returns-clause-absorbed

@@ -1,6 +1,6 @@
 use Rattle.std.proofs.Math.Nat.{mul-div_cancel'}
 use Rattle.std.proofs.Common.{sym, arith}
-use Rattle.sd_base.proofs.Divisors.{gcd_pos, quotient_pos, quotients, reduced_same}
+use Rattle.sd_base.proofs.LeastMultiplesDivide.{gcd_pos, quotient_pos, quotients, reduced_same}
 use Rattle.std.proofs.lemmas.Nat.Gcd.{IsGcd-swap}
 use Rattle.sd_base.proofs.numbers.Fraction.new.Goals as goal
 

@@ -5,7 +5,7 @@ use Rattle.sd_steps.specs.Readings.{opening_graph}
 use Rattle.sd_steps.specs.Takings.{Files}
 use Rattle.sd_command.specs.commands.BoundedCourses.{on_bounded}
 use Rattle.sd_command.specs.inside.Wants.{no_overlap_of, on_net}
-use Rattle.sd_command.proofs.command_lemmas.Goings.{same_name, same_value, taking_stops, taken_on}
+use Rattle.sd_command.proofs.command_lemmas.CommandsFollowSteps.{same_name, same_value, taking_stops, taken_on}
 use Rattle.sd_command.proofs.commands.bounded_course.answer.Goals as goal
 
 pub returns-in_err-graph-clause-answers : goal.returns-in_err-graph-clause-answers

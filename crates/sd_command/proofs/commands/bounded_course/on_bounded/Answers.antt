@@ -6,8 +6,8 @@ use Rattle.sd_steps.specs.Bufferings.{buffering}
 use Rattle.sd_steps.specs.Balancings.{balancing}
 use Rattle.sd_command.specs.inside.Goings.{Goes}
 use Rattle.sd_command.specs.inside.Wants.{IsBounded, no_overlap_of, on_net}
-use Rattle.sd_command.proofs.command_lemmas.Bounds.{is-bounded}
-use Rattle.sd_command.proofs.command_lemmas.Goings.{step_stops, goes_on}
+use Rattle.sd_command.proofs.command_lemmas.WordsBoundGraphs.{is-bounded}
+use Rattle.sd_command.proofs.command_lemmas.CommandsFollowSteps.{step_stops, goes_on}
 use Rattle.sd_command.proofs.commands.bounded_course.on_bounded.Goals as goal
 
 pub returns-in_err-distribution-clause-goes : goal.returns-in_err-distribution-clause-goes

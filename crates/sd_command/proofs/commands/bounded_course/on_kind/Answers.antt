@@ -1,6 +1,6 @@
 use Rattle.std.proofs.Common.{arith}
 use Rattle.std.proofs.lemmas.Result.{err_from_is_err_and}
-use Rattle.sd_command.proofs.command_lemmas.Wanting.{lacks-first}
+use Rattle.sd_command.proofs.command_lemmas.LackStopsFirst.{lacks-first}
 use Rattle.sd_command.proofs.commands.bounded_course.on_kind.Goals as goal
 
 pub returns-in_err-net-in-Sdf-clause-goes : goal.returns-in_err-net-in-Sdf-clause-goes

@@ -13,8 +13,8 @@ use Rattle.sd_command.specs.commands.InOrders.{ordered_rate_on}
 use Rattle.sd_steps.specs.Orderings.{NamedOrders}
 use Rattle.sd_command.specs.inside.Goings.{Goes}
 use Rattle.sd_command.specs.inside.Wants.{IsBounded, no_overlap_of}
-use Rattle.sd_command.proofs.command_lemmas.Wanting.{nothing-run}
-use Rattle.sd_command.proofs.command_lemmas.Bounds.{named-bounded, orderless-bounded}
+use Rattle.sd_command.proofs.command_lemmas.LackStopsFirst.{nothing-run}
+use Rattle.sd_command.proofs.command_lemmas.WordsBoundGraphs.{named-bounded, orderless-bounded}
 use Rattle.sd_command.proofs.commands.bounded_course.on_net.Goals as goal
 
 pub rate_of-requires-clause-named : goal.rate_of-requires-clause-named

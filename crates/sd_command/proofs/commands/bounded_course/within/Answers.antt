@@ -6,8 +6,8 @@ use Rattle.storage.specs.BoundedNets.{HasNoSpaces, bound}
 use Rattle.storage.specs.Distributions.{CanHold}
 use Rattle.sd_command.specs.inside.Goings.{Goes}
 use Rattle.sd_command.specs.inside.Wants.{no_overlap_of, on_net}
-use Rattle.sd_command.proofs.command_lemmas.Bounds.{few-bounded, file-spaceless}
-use Rattle.sd_command.proofs.command_lemmas.Wanting.{lacks-first}
+use Rattle.sd_command.proofs.command_lemmas.WordsBoundGraphs.{few-bounded, file-spaceless}
+use Rattle.sd_command.proofs.command_lemmas.LackStopsFirst.{lacks-first}
 use Rattle.sd_command.proofs.commands.bounded_course.within.Goals as goal
 
 pub new-requires-clause-none : goal.new-requires-clause-none

@@ -4,7 +4,7 @@ use Rattle.sd_steps.specs.declared.file_kind.FileKind.TheVariants.{Graph}
 use Rattle.sd_steps.specs.CertificateReadings.{opening_certificate}
 use Rattle.sd_command.specs.commands.Checks.{checked}
 use Rattle.sd_steps.specs.Takings.{Files, taking}
-use Rattle.sd_command.proofs.command_lemmas.Goings.{taking_stops, taken_on, takes_after, same_bytes}
+use Rattle.sd_command.proofs.command_lemmas.CommandsFollowSteps.{taking_stops, taken_on, takes_after, same_bytes}
 use Rattle.sd_command.proofs.commands.check.answer.Goals as goal
 
 pub returns-in_err-bytes : goal.returns-in_err-bytes

@@ -4,8 +4,8 @@ use Rattle.cert_checker.specs.Certificates.{IsCertificateClaim, IsCertificateFau
 use Rattle.cert_checker.specs.Verdicts.{IsVerdict}
 use Rattle.sd_steps.specs.Balancings.{balancing}
 use Rattle.sd_steps.specs.Readings.{reading_graph}
-use Rattle.sd_command.proofs.command_lemmas.Verdicts.{verdict_goes}
-use Rattle.sd_command.proofs.command_lemmas.Goings.{step_stops, goes_on}
+use Rattle.sd_command.proofs.command_lemmas.VerdictsAreTold.{verdict_goes}
+use Rattle.sd_command.proofs.command_lemmas.CommandsFollowSteps.{step_stops, goes_on}
 use Rattle.sd_command.proofs.commands.check.graph_checked.Goals as goal
 
 pub returns-in_err-graph : goal.returns-in_err-graph

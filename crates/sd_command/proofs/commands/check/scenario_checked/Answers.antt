@@ -2,8 +2,8 @@ use Rattle.std.proofs.Common.{refl}
 use Rattle.std.proofs.lemmas.Result.{err_from_is_err_and}
 use Rattle.cert_checker.specs.ScenarioCertificates.{IsWorstClaim, IsWorstFault}
 use Rattle.sd_steps.specs.ScenarioSteps.{reading_scenarios, timing}
-use Rattle.sd_command.proofs.command_lemmas.Verdicts.{verdict_goes}
-use Rattle.sd_command.proofs.command_lemmas.Goings.{step_stops, goes_on}
+use Rattle.sd_command.proofs.command_lemmas.VerdictsAreTold.{verdict_goes}
+use Rattle.sd_command.proofs.command_lemmas.CommandsFollowSteps.{step_stops, goes_on}
 use Rattle.sd_command.proofs.commands.check.scenario_checked.Goals as goal
 
 pub returns-in_err-file : goal.returns-in_err-file

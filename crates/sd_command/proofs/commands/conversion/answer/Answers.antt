@@ -1,6 +1,6 @@
 use Rattle.std.proofs.Common.{refl}
 use Rattle.std.proofs.lemmas.Result.{err_from_is_err_and}
-use Rattle.sd_command.proofs.command_lemmas.Goings.{taking_stops, taken_on}
+use Rattle.sd_command.proofs.command_lemmas.CommandsFollowSteps.{taking_stops, taken_on}
 use Rattle.sd_command.proofs.commands.conversion.answer.Goals as goal
 
 pub returns-in_err-read : goal.returns-in_err-read

@@ -4,8 +4,8 @@ use Rattle.report.specs.declared.claims.CertificateKind.{CertificateKind}
 use Rattle.report.specs.ClaimTexts.{converted_line}
 use Rattle.sd_steps.specs.declared.file_kind.FileKind.TheVariants.{Output}
 use Rattle.sd_steps.specs.Certifyings.{certifying}
-use Rattle.sd_command.proofs.command_lemmas.Goings.{step_stops, goes_on}
-use Rattle.sd_command.proofs.command_lemmas.Analyses.{print_answers}
+use Rattle.sd_command.proofs.command_lemmas.CommandsFollowSteps.{step_stops, goes_on}
+use Rattle.sd_command.proofs.command_lemmas.AnalysesEndCommands.{print_answers}
 use Rattle.sd_command.proofs.commands.conversion.converted.Goals as goal
 
 pub returns-in_err-put : goal.returns-in_err-put

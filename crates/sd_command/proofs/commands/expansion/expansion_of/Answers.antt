@@ -2,8 +2,8 @@ use Rattle.std.proofs.Common.{Some, refl, ap}
 use Rattle.std.proofs.lemmas.Result.{err_from_is_err_and}
 use Rattle.sd_steps.specs.declared.answer.Put.{Put}
 use Rattle.sd_command.specs.commands.Expansions.{expanding}
-use Rattle.sd_command.proofs.command_lemmas.Goings.{step_stops, goes_on}
-use Rattle.sd_command.proofs.command_lemmas.Analyses.{print_answers}
+use Rattle.sd_command.proofs.command_lemmas.CommandsFollowSteps.{step_stops, goes_on}
+use Rattle.sd_command.proofs.command_lemmas.AnalysesEndCommands.{print_answers}
 use Rattle.sd_command.proofs.commands.expansion.expansion_of.Goals as goal
 
 pub returns-in_err-big : goal.returns-in_err-big

@@ -1,6 +1,6 @@
 use Rattle.std.proofs.Common.{true, ap, ◌∙◌}
 use Rattle.sd_base.specs.declared.tables.GraphFile.{GraphFile}
-use Rattle.sd_command.proofs.command_lemmas.Summaries.{read_again, only_memory, made_kind}
+use Rattle.sd_command.proofs.command_lemmas.SummariesDecideGenerate.{read_again, only_memory, made_kind}
 use Rattle.sd_command.proofs.commands.generation.made_again.Goals as goal
 
 pub returns-in-Ok-clause-made : goal.returns-in-Ok-clause-made

@@ -1,4 +1,4 @@
-use Rattle.std.proofs.Common.{◌-◌, ◌*◌, ◌≤◌, ◌∙◌, ℕ, List, true, length, ap, subst, sym}
+use Rattle.std.proofs.Common.{◌-◌, ◌*◌, ◌≤◌, ◌∙◌, ℕ, List, IfOk, true, length, ap, subst, sym}
 use Rattle.sd_base.specs.declared.limits.TheConstants.{NET_CHANNELS}
 use Rattle.sd_base.specs.Net.{Net}
 use Rattle.sd_base.specs.FileNet.{net_of}
@@ -9,7 +9,8 @@ use Rattle.report.specs.LinkTexts.{IsNamed}
 use Rattle.sd_command.specs.commands.Generations.{summary_of}
 use Rattle.sd_command.specs.inside.Goings.{Goes}
 use Rattle.storage.proofs.FileConnections.{file-connected, file-few}
-use Rattle.sd_steps.proofs.Overs.{net-over}
+use Rattle.sd_steps.proofs.NetsStandOverGraphs.{net-over}
+use Rattle.pareto_search.specs.Entrances.{IsEvaluating}
 use Rattle.sd_command.proofs.commands.generation.summary_of_graph.Goals as goal
 
 pub summary_of-requires-clause-named : goal.summary_of-requires-clause-named
@@ -29,3 +30,8 @@ summary_of-requires-clause-few g c = λ κs outlive.
 pub returns-clause-goes : goal.returns-clause-goes
 returns-clause-goes g c = λ faults.
     subst (λ (net : Net). Goes (summary_of c.args.made.now.seed c.args.made.now.graph c.args.made.now.gamma net c.args.limits) c.summary_of.result (c.summary_of.new.steps.count - c.args.steps.now.count) faults faults) (c.in_ok-net.ensures ∙ ap (λ (v : List ℕ). net_of c.args.made.now.graph v true) c.as_slice.ensures) (c.summary_of.ensures.goes faults)
+
+pub returns-clause-entered : goal.returns-clause-entered
+returns-clause-entered g c =
+    subst (λ (net : Net). IfOk c.summary_of.result (λ answer. IsEvaluating net c.args.limits (g.G.Gate.entered c.args.parallel.now.gate.now) (c.summary_of.new.steps.count - c.args.steps.now.count)))
+    (c.in_ok-net.ensures ∙ ap (λ (v : List ℕ). net_of c.args.made.now.graph v true) c.as_slice.ensures) c.summary_of.ensures.entered

@@ -21,8 +21,8 @@ use Rattle.sd_steps.specs.Orderings.{NamedOrders, ordering}
 use Rattle.sd_command.specs.commands.InOrders.{AdmitsInOrder, in_order}
 use Rattle.sd_command.specs.commands.Throughputs.{rate_on}
 use Rattle.sd_command.specs.inside.Goings.{Goes}
-use Rattle.sd_command.proofs.command_lemmas.Bounds.{named-bounded}
-use Rattle.sd_command.proofs.command_lemmas.Goings.{step_stops, goes_on}
+use Rattle.sd_command.proofs.command_lemmas.WordsBoundGraphs.{named-bounded}
+use Rattle.sd_command.proofs.command_lemmas.CommandsFollowSteps.{step_stops, goes_on}
 use Rattle.sd_command.proofs.command_lemmas.OrderedOver.{bound-can, ordered-over, ordered-room}
 use Rattle.sd_command.proofs.commands.in_order.rate_in_order.Goals as goal
 

@@ -1,4 +1,4 @@
-use Rattle.sd_steps.proofs.Joins.{joined-connected, fed-inputs}
+use Rattle.sd_steps.proofs.PathsConnectNets.{joined-connected, fed-inputs}
 use Rattle.sd_command.proofs.commands.least_time.completed.Goals as goal
 
 pub complete_wired-requires-clause-connected : goal.complete_wired-requires-clause-connected

@@ -5,8 +5,8 @@ use Rattle.report.specs.CompletionTexts.{complete_lines}
 use Rattle.sd_command.specs.commands.LeastTimes.{pair_of}
 use Rattle.std.proofs.lemmas.Result.{err_from_is_err_and}
 use Rattle.sd_steps.specs.Nets.{testing}
-use Rattle.sd_command.proofs.command_lemmas.Goings.{step_stops, goes_on}
-use Rattle.sd_command.proofs.command_lemmas.Analyses.{time_answers, time_lacks, time_stops}
+use Rattle.sd_command.proofs.command_lemmas.CommandsFollowSteps.{step_stops, goes_on}
+use Rattle.sd_command.proofs.command_lemmas.AnalysesEndCommands.{time_answers, time_lacks, time_stops}
 use Rattle.sd_command.proofs.commands.least_time.time_of.Goals as goal
 
 pub returns-in_err-test-clause-goes : goal.returns-in_err-test-clause-goes

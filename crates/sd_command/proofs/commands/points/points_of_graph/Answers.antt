@@ -1,4 +1,4 @@
-use Rattle.std.proofs.Common.{◌-◌, ◌*◌, ◌≤◌, length, subst, sym}
+use Rattle.std.proofs.Common.{◌-◌, ◌*◌, ◌≤◌, IfOk, length, subst, sym}
 use Rattle.sd_base.specs.declared.limits.TheConstants.{NET_CHANNELS}
 use Rattle.sd_base.specs.Net.{Net}
 use Rattle.sd_base.specs.Connection.{IsConnected}
@@ -9,8 +9,9 @@ use Rattle.cert_maker.specs.Links.{HasNoOrders}
 use Rattle.sd_command.specs.commands.Points.{points_of}
 use Rattle.sd_command.specs.inside.Goings.{Goes}
 use Rattle.storage.proofs.FileConnections.{file-connected, file-few}
-use Rattle.sd_command.proofs.command_lemmas.Orderless.{net-orderless}
-use Rattle.sd_steps.proofs.Overs.{net-over}
+use Rattle.sd_command.proofs.command_lemmas.FileNetsHaveNoOrders.{net-orderless}
+use Rattle.sd_steps.proofs.NetsStandOverGraphs.{net-over}
+use Rattle.sd_command.specs.Entrances.{IsSearched}
 use Rattle.sd_command.proofs.commands.points.points_of_graph.Goals as goal
 
 pub points_of-requires-clause-named : goal.points_of-requires-clause-named
@@ -54,3 +55,11 @@ points_of-requires-clause-unordered g c = λ κs outlive. subst HasNoOrders (sym
 
 pub points_of-requires-in-Csdf-clause-unordered : goal.points_of-requires-in-Csdf-clause-unordered
 points_of-requires-in-Csdf-clause-unordered g c = λ κs outlive. subst HasNoOrders (sym c.in_ok-net-in-Csdf.ensures) (net-orderless c.args.graph.now c.args.gamma.now c.args.wanted.now.no_overlap)
+
+pub returns-in_ok-net-in-Sdf-clause-entered : goal.returns-in_ok-net-in-Sdf-clause-entered
+returns-in_ok-net-in-Sdf-clause-entered g c =
+    subst (λ (net : Net). IfOk c.points_of.result (λ answer. IsSearched net c.args.wanted.now (g.G.Gate.entered c.args.parallel.now.gate.now) (c.points_of.new.steps.count - c.args.steps.now.count))) c.in_ok-net-in-Sdf.ensures c.points_of.ensures.entered
+
+pub returns-in_ok-net-in-Csdf-clause-entered : goal.returns-in_ok-net-in-Csdf-clause-entered
+returns-in_ok-net-in-Csdf-clause-entered g c =
+    subst (λ (net : Net). IfOk c.points_of-in-Csdf.result (λ answer. IsSearched net c.args.wanted.now (g.G.Gate.entered c.args.parallel.now.gate.now) (c.points_of-in-Csdf.new.steps.count - c.args.steps.now.count))) c.in_ok-net-in-Csdf.ensures c.points_of-in-Csdf.ensures.entered

@@ -12,10 +12,11 @@ use Rattle.report.specs.StorageTexts.{points_lines}
 use Rattle.sd_steps.specs.declared.answer.Put.{Put}
 use Rattle.sd_steps.specs.Certifyings.{Certifies}
 use Rattle.sd_command.specs.commands.Points.{ArePointsShown, IsOfPoints, IsPointSchedule}
-use Rattle.sd_command.proofs.command_lemmas.Analyses.{few_from}
+use Rattle.sd_command.proofs.command_lemmas.AnalysesEndCommands.{few_from}
 use Rattle.sd_command.proofs.command_lemmas.PointAnswers.{certificate-put, certificate-stops, explored-trade_off, points-answer, search-lacks, search-stops}
 use Rattle.sd_command.proofs.command_lemmas.PointSchedules.{zip-starts}
 use Rattle.sd_command.proofs.command_lemmas.PointTasks.{points-showable}
+use Rattle.sd_command.specs.Entrances.{for_members}
 use Rattle.sd_command.proofs.commands.points.with_certificate.Goals as goal
 
 pub shown_points-requires-after_bounds : goal.shown_points-requires-after_bounds
@@ -26,6 +27,10 @@ shown_points-requires-after_bounds g c κs within =
 
 pub put_as-requires-clause-many : goal.put_as-requires-clause-many
 put_as-requires-clause-many g c = AllZip-long _ _ _ c.in_ok-shown.ensures.schedules ∙ ap length c.as_slice.ensures.value
+
+pub put_as-requires-clause-reached : goal.put_as-requires-clause-reached
+put_as-requires-clause-reached g c =
+    subst (λ (ps : List Point). AllZip (IsPointSchedule (g.F.Firing.net c.args.net.now)) ps c.in_ok-shown.shown.schedules.items) c.as_slice.ensures.value c.in_ok-shown.ensures.schedules
 
 pub put_as-requires-clause-starts : goal.put_as-requires-clause-starts
 put_as-requires-clause-starts g c =
@@ -80,3 +85,8 @@ returns-clause-goes g c = λ faults.
     (omega (arith, c.in_ok-exploration.ensures.least))
     _ (c.in_ok-shown.ensures.text ∙ ap (λ (ps : List Point). points_lines c.args.graph.now ps schedules) c.as_slice.ensures.value)
     (certificate-put c.args.graph.now net wanted _ faults points schedules shown live c.args.name.now c.requires.asked cycles count c.in_ok-put.put c.in_ok-put.ensures)
+
+pub returns-clause-entered : goal.returns-clause-entered
+returns-clause-entered g c =
+    for_members c.args.name.now c.requires.asked c.in_ok-exploration.exploration.members.items c.in_ok-exploration.exploration.points.items c.in_ok-exploration.ensures.does
+    (omega (arith, c.in_ok-exploration.ensures.counts)) c.in_ok-exploration.ensures.entered

@@ -8,9 +8,10 @@ use Rattle.pareto_front.specs.declared.point.Point.{Point}
 use Rattle.pareto_search.specs.TradeOffs.{IsTradeOff}
 use Rattle.report.specs.StorageTexts.{points_lines}
 use Rattle.sd_command.specs.commands.Points.{ArePointsShown, IsPointSchedule}
-use Rattle.sd_command.proofs.command_lemmas.Analyses.{few_from}
+use Rattle.sd_command.proofs.command_lemmas.AnalysesEndCommands.{few_from}
 use Rattle.sd_command.proofs.command_lemmas.PointAnswers.{points-answer, search-lacks, search-stops}
 use Rattle.sd_command.proofs.command_lemmas.PointTasks.{points-showable}
+use Rattle.sd_command.specs.Entrances.{for_points}
 use Rattle.sd_command.proofs.commands.points.without_certificate.Goals as goal
 
 pub shown_points-requires-after_bounds : goal.shown_points-requires-after_bounds
@@ -45,3 +46,6 @@ returns-clause-goes g c = λ faults.
     (omega (arith, c.in_ok-points.ensures.least))
     _ (c.in_ok-shown.ensures.text ∙ ap (λ (ps : List Point). points_lines c.args.graph.now ps schedules) c.as_slice.ensures.value)
     (rw c.requires.asked refl)
+
+pub returns-clause-entered : goal.returns-clause-entered
+returns-clause-entered g c = for_points c.requires.asked (c.in_ok-points.ensures.entered _ (omega (arith, c.in_ok-points.ensures.rises)))

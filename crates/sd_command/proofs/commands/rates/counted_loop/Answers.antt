@@ -1,4 +1,4 @@
-use Rattle.sd_steps.proofs.Joins.{joined-connected, fed-inputs}
+use Rattle.sd_steps.proofs.PathsConnectNets.{joined-connected, fed-inputs}
 use Rattle.sd_command.proofs.commands.rates.counted_loop.Goals as goal
 
 pub find_loop-requires-clause-connected : goal.find_loop-requires-clause-connected

@@ -1,8 +1,8 @@
 use Rattle.std.proofs.Common.{arith}
 use Rattle.std.proofs.lemmas.Result.{err_from_is_err_and}
 use Rattle.sd_steps.specs.Nets.{testing}
-use Rattle.sd_command.proofs.command_lemmas.Goings.{step_stops, goes_on}
-use Rattle.sd_command.proofs.command_lemmas.Analyses.{run_stops, run_answers}
+use Rattle.sd_command.proofs.command_lemmas.CommandsFollowSteps.{step_stops, goes_on}
+use Rattle.sd_command.proofs.command_lemmas.AnalysesEndCommands.{run_stops, run_answers}
 use Rattle.sd_command.proofs.commands.rates.rate_of.Goals as goal
 
 pub returns-in_err-test-clause-goes : goal.returns-in_err-test-clause-goes

@@ -2,8 +2,8 @@ use Rattle.std.proofs.Common.{◌∙◌, ℕ, List, ap, refl}
 use Rattle.std.proofs.lemmas.Result.{err_from_is_err_and}
 use Rattle.report.specs.AnswerTexts.{repetition_lines}
 use Rattle.sd_steps.specs.Balancings.{balancing}
-use Rattle.sd_command.proofs.command_lemmas.Goings.{step_stops, goes_on, taking_stops, taken_on}
-use Rattle.sd_command.proofs.command_lemmas.Analyses.{print_answers}
+use Rattle.sd_command.proofs.command_lemmas.CommandsFollowSteps.{step_stops, goes_on, taking_stops, taken_on}
+use Rattle.sd_command.proofs.command_lemmas.AnalysesEndCommands.{print_answers}
 use Rattle.sd_command.proofs.commands.repetition.answer.Goals as goal
 
 pub returns-in_err-graph : goal.returns-in_err-graph

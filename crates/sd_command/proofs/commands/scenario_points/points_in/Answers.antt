@@ -14,9 +14,9 @@ use Rattle.sd_steps.specs.ScenarioBounds.{ArePassed, bounding_all, fitting_nodes
 use Rattle.sd_command.specs.commands.ScenarioPoints.{points_in, searching}
 use Rattle.sd_steps.specs.Steps.{Does}
 use Rattle.sd_command.specs.inside.Goings.{Goes}
-use Rattle.sd_command.proofs.command_lemmas.Boundable.{can-be-bounded, tokens-few}
-use Rattle.sd_command.proofs.command_lemmas.Goings.{goes_on, step_stops}
-use Rattle.sd_command.proofs.command_lemmas.Analyses.{search_answers, search_stops}
+use Rattle.sd_command.proofs.command_lemmas.TestedFilesHaveBounds.{can-be-bounded, tokens-few}
+use Rattle.sd_command.proofs.command_lemmas.CommandsFollowSteps.{goes_on, step_stops}
+use Rattle.sd_command.proofs.command_lemmas.AnalysesEndCommands.{search_answers, search_stops}
 use Rattle.sd_command.proofs.commands.scenario_points.points_in.Goals as goal
 
 abbrev tokens : ScenarioFile → ScenarioLimits → ℕ
@@ -35,8 +35,8 @@ overflow_add-tokens g c = let most = few c.args.file.now c.args.limits c.looped_
 pub bound_all-requires-clause-tokens : goal.bound_all-requires-clause-tokens
 bound_all-requires-clause-tokens g c = few c.args.file.now c.args.limits c.looped_tokens.result c.requires.rules c.requires.total c.looped_tokens.ensures
 
-pub returns-in_err-bound_all : goal.returns-in_err-bound_all
-returns-in_err-bound_all g c = λ faults.
+pub returns-in_err-bound_all-clause-goes : goal.returns-in_err-bound_all-clause-goes
+returns-in_err-bound_all-clause-goes g c = λ faults.
     let file = c.args.file.now in
     let limits = c.args.limits in
     let p = err_from_is_err_and c.from_residual.result c.from_residual.ensures.1 in
@@ -50,8 +50,8 @@ fit_nodes-requires-clause-tokens g c = few c.args.file.now c.args.limits c.loope
 passed : (file : ScenarioFile) (limits : ScenarioLimits) (n : ℕ) → n ≡ looped_tokens file.scenarios file.shared → ArePassed file (limits.total + n) → ArePassed file (tokens file limits)
 passed file limits n is all = subst (λ (m : ℕ). ArePassed file (limits.total + m)) is all
 
-pub returns-in_err-fit_nodes : goal.returns-in_err-fit_nodes
-returns-in_err-fit_nodes g c = λ faults.
+pub returns-in_err-fit_nodes-clause-goes : goal.returns-in_err-fit_nodes-clause-goes
+returns-in_err-fit_nodes-clause-goes g c = λ faults.
     let file = c.args.file.now in
     let limits = c.args.limits in
     let p = err_from_is_err_and c.from_residual-in_err-fit_nodes.result c.from_residual-in_err-fit_nodes.ensures.1 in
@@ -80,14 +80,14 @@ searched file limits n faults result is all few goes =
     goes_on (bounding_all file (tokens file limits)) (bounded_on file limits) tt result 0 faults faults (passed file limits n is all)
     (goes_on (fitting_nodes file (tokens file limits)) _ tt result 0 faults faults (fits file limits n is few) goes)
 
-pub returns-in_err-points : goal.returns-in_err-points
-returns-in_err-points g c = λ faults.
+pub returns-in_err-points-clause-goes : goal.returns-in_err-points-clause-goes
+returns-in_err-points-clause-goes g c = λ faults.
     let p = err_from_is_err_and c.from_residual-in_err-points.result c.from_residual-in_err-points.ensures.1 in
     rw (p.1, p.2) (searched c.args.file.now c.args.limits c.looped_tokens.result faults (Err c.in_err-points.field-0.0) c.looped_tokens.ensures c.in_ok-bound_all.ensures c.in_ok-fit_nodes.ensures
     (search_stops c.args.file.now c.args.limits faults c.in_err-points.field-0.0 c.in_err-points.ensures.does))
 
-pub returns : goal.returns
-returns g c = λ faults.
+pub returns-clause-goes : goal.returns-clause-goes
+returns-clause-goes g c = λ faults.
     searched c.args.file.now c.args.limits c.looped_tokens.result faults (Ok _) c.looped_tokens.ensures c.in_ok-bound_all.ensures c.in_ok-fit_nodes.ensures
     (search_answers c.args.file.now c.args.limits faults _ (record {
       points = c.in_ok-points.points.items;
@@ -96,3 +96,6 @@ returns g c = λ faults.
       put = refl;
       none = refl;
     }))
+
+pub returns-clause-entered : goal.returns-clause-entered
+returns-clause-entered g c = (c.in_ok-points.points.items, c.in_ok-points.ensures.does, c.in_ok-points.ensures.entered)

@@ -1,6 +1,6 @@
 use Rattle.std.proofs.Common.{arith}
-use Rattle.std.proofs.lemmas.Result.{err_from_is_err_and}
-use Rattle.sd_command.proofs.command_lemmas.Goings.{taking_stops, taken_on}
+use Rattle.std.proofs.lemmas.Result.{IfOk-weaker, err_from_is_err_and}
+use Rattle.sd_command.proofs.command_lemmas.CommandsFollowSteps.{taking_stops, taken_on}
 use Rattle.sd_command.proofs.commands.trade_off.answer.Goals as goal
 
 pub returns-in_err-graph-clause-answers : goal.returns-in_err-graph-clause-answers
@@ -20,3 +20,6 @@ returns-clause-answers g c = record {
   telling = c.in_ok-graph.ensures.telling;
   grows = c.in_ok-graph.ensures.grows;
 }
+
+pub returns-clause-entered : goal.returns-clause-entered
+returns-clause-entered g c = IfOk-weaker c.trade_off.result _ _ (λ answer is. (c.in_ok-graph.graph, c.in_ok-graph.ensures.takes.0, is)) c.trade_off.ensures.entered

@@ -2,8 +2,11 @@ use Rattle.std.proofs.Common.{◌≡◌, get_or, Some, Ok, refl}
 use Rattle.std.specs.Prelude.{slice_get}
 use Rattle.std.proofs.lemmas.Option.{slice_get-get_or}
 use Rattle.std.proofs.lemmas.Result.{err_from_is_err_and}
-use Rattle.sd_command.proofs.command_lemmas.Certified.{worst-stops}
-use Rattle.sd_command.proofs.command_lemmas.Analyses.{worst_told}
+use Rattle.sd_command.proofs.command_lemmas.CertificatesArePut.{worst-stops}
+use Rattle.sd_command.specs.commands.WorstRates.{IsOfWorst}
+use Rattle.sd_command.specs.inside.MadeCertificates.{IsMadeOfWorst}
+use Rattle.sd_command.proofs.command_lemmas.AnalysesEndCommands.{worst_told}
+use Rattle.sd_command.proofs.command_lemmas.PutsArePlain.{certifies-plain, worst-plain}
 use Rattle.sd_command.proofs.command_lemmas.WorstSizes.{cycle-light, path-edges}
 use Rattle.sd_command.proofs.commands.worst_rate.tell.Goals as goal
 
@@ -51,7 +54,7 @@ returns-in_err-put c = λ faults.
       fit = shown.fit;
       reached = shown.reached;
       least = shown.least;
-    }) c.in_err-put.field-0.0 c.in_err-put.ensures))
+    }) shown.apart c.in_err-put.field-0.0 c.in_err-put.ensures))
 
 pub returns : goal.returns
 returns c = λ faults.
@@ -68,6 +71,8 @@ returns c = λ faults.
         least = shown.least;
       };
       text = c.in_ok-text.ensures;
-      put = c.in_ok-put.ensures;
+      put =
+          certifies-plain (IsMadeOfWorst c.args.graph.now c.in_ok-worst.worst) (IsOfWorst c.args.graph.now c.in_ok-worst.worst)
+          (worst-plain c.args.graph.now c.in_ok-worst.worst shown.apart shown.fit shown.least) c.args.certificate.now c.in_ok-put.put c.in_ok-put.ensures;
       none = refl;
     })

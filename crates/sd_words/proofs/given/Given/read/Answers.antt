@@ -1,7 +1,7 @@
 use Rattle.std.proofs.Common.{◌∙◌, ℕ, List, Bor, ap, map}
 use Rattle.std.proofs.lemmas.Result.{err_from_is_err_and}
 use Rattle.clap.specs.Words.{App, found_of, is_simple, matches_of, takes}
-use Rattle.sd_words.proofs.Parsed.{found, simple, taken}
+use Rattle.sd_words.proofs.ClapFindsValues.{found, simple, taken}
 use Rattle.sd_words.proofs.given.Given.read.Goals as goal
 
 pub returns-in_err-matches-clause-refused : goal.returns-in_err-matches-clause-refused

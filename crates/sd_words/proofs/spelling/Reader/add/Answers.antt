@@ -1,7 +1,7 @@
 use Rattle.std.proofs.Common.{◌≡◌, ◌∙◌, [], ◌∷◌, ◌++◌, true, false, refl, sym, rules}
 use Rattle.sd_words.specs.Reading.{is_taken}
-use Rattle.sd_words.proofs.Seen.{seen-more, taken-fails, taken-seen}
-use Rattle.sd_words.proofs.Spelled.{free, pair, with_setting-of}
+use Rattle.sd_words.proofs.SeenNamesMatch.{seen-more, taken-fails, taken-seen}
+use Rattle.sd_words.proofs.ReadingGivesSettings.{free, pair, with_setting-of}
 use Rattle.sd_words.proofs.spelling.Reader.add.Goals as goal
 
 pub returns-then-is_taken : goal.returns-then-is_taken

@@ -1,5 +1,5 @@
 use Rattle.std.specs.BinaryHeap.{heap_items}
-use Rattle.selftimed.proofs.Calendars.{taken}
+use Rattle.selftimed.proofs.CalendarsTellSoonest.{taken}
 use Rattle.selftimed.proofs.calendar.Calendar.pop_due.Goals as goal
 
 pub returns : goal.returns

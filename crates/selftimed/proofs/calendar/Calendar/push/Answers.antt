@@ -1,6 +1,6 @@
 use Rattle.std.specs.BinaryHeap.{heap_items}
-use Rattle.selftimed.specs.inside.Agendas.{entry}
-use Rattle.selftimed.proofs.Calendars.{added}
+use Rattle.selftimed.specs.inside.EventQueues.{entry}
+use Rattle.selftimed.proofs.CalendarsTellSoonest.{added}
 use Rattle.selftimed.proofs.calendar.Calendar.push.Goals as goal
 
 pub returns-in_ok-push : goal.returns-in_ok-push

@@ -9,7 +9,7 @@ use Rattle.selftimed.proofs.ends.DueActor.touch_itself.Goals as goal
 pub returns-in_ok-touch-clause-lists : goal.returns-in_ok-touch-clause-lists
 returns-in_ok-touch-clause-lists g c =
     let place : c.args.self.now.actor < length c.args.actors.now = omega (arith, c.args.self.now.is_actor, c.requires.long) in
-    rw c.in_ok-touch.ensures.state (lists-more (g.F.Firing.net c.args.self.now.net.now) c.args.actors.now c.args.agenda.now.touched.items c.touch.new.self.touched.items c.args.self.now.actor c.args.self.now.is_actor place
+    rw c.in_ok-touch.ensures.state (lists-more (g.F.Firing.net c.args.self.now.net.now) c.args.actors.now c.args.event_queue.now.touched.items c.touch.new.self.touched.items c.args.self.now.actor c.args.self.now.is_actor place
     (slice_index_or c.args.actors.now c.args.self.now.actor c.index-actors-self-then-actors-self.result) (get_or_default c.args.actors.now c.args.self.now.actor c.index-actors-self-then-actors-self.result idle place) c.requires.lists c.in_ok-touch.ensures.touched)
 
 pub returns-in_ok-touch-clause-touched : goal.returns-in_ok-touch-clause-touched
@@ -18,8 +18,8 @@ returns-in_ok-touch-clause-touched g c =
     let base : ActorState = slice_index_or c.args.actors.now c.args.self.now.actor c.index-actors-self-then-actors-self.result in
     let was : base ≡ slice_index_or c.args.actors.now c.args.self.now.actor idle = get_or_default c.args.actors.now c.args.self.now.actor c.index-actors-self-then-actors-self.result idle place in
     rw c.in_ok-touch.ensures.state (itself-more c.args.self.now.own c.args.self.now.actor c.args.actors.now _
-    (kept-more (g.F.Firing.net c.args.self.now.net.now) c.args.actors.now c.args.agenda.now.touched.items c.touch.new.self.touched.items c.args.self.now.actor c.args.self.now.is_actor place base was c.requires.lists c.in_ok-touch.ensures.touched)
-    (touched-now (g.F.Firing.net c.args.self.now.net.now) c.args.actors.now c.args.agenda.now.touched.items c.touch.new.self.touched.items c.args.self.now.actor c.args.self.now.is_actor place base was c.requires.lists c.in_ok-touch.ensures.touched))
+    (kept-more (g.F.Firing.net c.args.self.now.net.now) c.args.actors.now c.args.event_queue.now.touched.items c.touch.new.self.touched.items c.args.self.now.actor c.args.self.now.is_actor place base was c.requires.lists c.in_ok-touch.ensures.touched)
+    (touched-now (g.F.Firing.net c.args.self.now.net.now) c.args.actors.now c.args.event_queue.now.touched.items c.touch.new.self.touched.items c.args.self.now.actor c.args.self.now.is_actor place base was c.requires.lists c.in_ok-touch.ensures.touched))
 
 pub returns-else-actors-self-clause-touched : goal.returns-else-actors-self-clause-touched
 returns-else-actors-self-clause-touched g c =

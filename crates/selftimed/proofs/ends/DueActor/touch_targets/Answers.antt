@@ -17,8 +17,8 @@ loop-channel-preserved g c =
     let actor : c.target_of-target.result < length (g.F.Firing.net c.args.self.now.net.now).times = omega (arith, target, (g.met.F.Firing.lawful c.args.self.now.net.now).targets i below) in
     let place : c.target_of-target.result < length c.loop-channel.actors = omega (arith, c.loop-channel.auto.actors, c.requires.long) in
     elim c.if-has_enough.branch [
-      | then-has_enough+in_ok-touch w ↦ rw (w.actors-is, w.agenda-is) (
-        rw w.in_ok-touch.ensures.state (touches-more (g.F.Firing.net c.args.self.now.net.now) c.loop-channel.actors c.loop-channel.agenda.touched.items w.touch.new.self.touched.items c.target_of-target.result actor place (slice_index_or c.loop-channel.actors c.target_of-target.result w.index-actors-target-then-has_enough.result)
+      | then-has_enough+in_ok-touch w ↦ rw (w.actors-is, w.event_queue-is) (
+        rw w.in_ok-touch.ensures.state (touches-more (g.F.Firing.net c.args.self.now.net.now) c.loop-channel.actors c.loop-channel.event_queue.touched.items w.touch.new.self.touched.items c.target_of-target.result actor place (slice_index_or c.loop-channel.actors c.target_of-target.result w.index-actors-target-then-has_enough.result)
             (get_or_default c.loop-channel.actors c.target_of-target.result w.index-actors-target-then-has_enough.result idle place) c.loop-channel.invariant.0.lists w.in_ok-touch.ensures.touched
             c.args.tokens.now c.args.self.now.outputs.now c.args.actors.now c.loop-channel.channel-index target c.loop-channel.invariant.0),
         w.touch.ensures.ends ∙ c.loop-channel.invariant.1,
@@ -33,8 +33,8 @@ loop-channel-preserved g c =
           let still : lacking_in c.loop-channel.actors c.target_of-target.result ≡ i → slice_index c.args.tokens.now i < phase_entry (channel_at (g.F.Firing.net c.args.self.now.net.now) i).taken (started_in c.loop-channel.actors c.target_of-target.result) =
           subst (λ (s : ActorState). s.lacking ≡ i → slice_index c.args.tokens.now i < phase_entry (channel_at (g.F.Firing.net c.args.self.now.net.now) i).taken s.started)
           (sym (get_or_default c.loop-channel.actors c.target_of-target.result idle c.index-actors-target.result place)) short in
-          rw (w.actors-is, w.agenda-is) (
-            touches-skip (g.F.Firing.net c.args.self.now.net.now) c.args.tokens.now c.args.self.now.outputs.now c.args.actors.now c.loop-channel.actors c.loop-channel.agenda.touched.items c.loop-channel.channel-index c.target_of-target.result target still c.loop-channel.invariant.0,
+          rw (w.actors-is, w.event_queue-is) (
+            touches-skip (g.F.Firing.net c.args.self.now.net.now) c.args.tokens.now c.args.self.now.outputs.now c.args.actors.now c.loop-channel.actors c.loop-channel.event_queue.touched.items c.loop-channel.channel-index c.target_of-target.result target still c.loop-channel.invariant.0,
             c.loop-channel.invariant.1,
           )
     ]

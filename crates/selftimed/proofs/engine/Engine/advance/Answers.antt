@@ -1,4 +1,4 @@
-use Rattle.selftimed.proofs.Exactness.{answer-stuck, answer-spent}
+use Rattle.selftimed.proofs.StepsTellStuck.{answer-stuck, answer-spent}
 use Rattle.selftimed.proofs.engine.Engine.advance.Goals as goal
 
 pub returns-in-Fresh-clause-stuck : goal.returns-in-Fresh-clause-stuck

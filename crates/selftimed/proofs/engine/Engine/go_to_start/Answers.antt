@@ -1,4 +1,4 @@
-use Rattle.selftimed.proofs.Advancing.{begun-step}
+use Rattle.selftimed.proofs.EnginesAnswerSteps.{begun-step}
 use Rattle.selftimed.proofs.PortRows.{fresh-ports}
 use Rattle.selftimed.proofs.engine.Engine.go_to_start.Goals as goal
 

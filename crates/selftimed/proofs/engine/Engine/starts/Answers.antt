@@ -1,4 +1,4 @@
-use Rattle.selftimed.proofs.Advancing.{all-starts}
+use Rattle.selftimed.proofs.EnginesAnswerSteps.{all-starts}
 use Rattle.selftimed.proofs.engine.Engine.starts.Goals as goal
 
 pub returns : goal.returns

@@ -1,6 +1,6 @@
 use Rattle.std.proofs.Common.{◌∙◌, ap, sym, arith}
 use Rattle.std.proofs.lemmas.Bool.{false≢true}
-use Rattle.selftimed.proofs.Runs.{ends-push, grown-ends, grown-runs, last-few, runs-push}
+use Rattle.selftimed.proofs.RunsListEnds.{ends-push, grown-ends, grown-runs, last-few, runs-push}
 use Rattle.selftimed.specs.inside.Runs.{ends_of, EndsLastAt}
 use Rattle.selftimed.proofs.queue.Queue.add.Goals as goal
 

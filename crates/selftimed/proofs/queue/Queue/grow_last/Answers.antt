@@ -1,6 +1,6 @@
 use Rattle.std.proofs.Common.{◌≡◌, ◌-◌, length, set, drop, ap, ◌∙◌, refl}
 use Rattle.std.proofs.lemmas.List.{length-set, take_at}
-use Rattle.selftimed.proofs.Runs.{grown-drop}
+use Rattle.selftimed.proofs.RunsListEnds.{grown-drop}
 use Rattle.selftimed.specs.inside.Runs.{more_of, run_at}
 use Rattle.selftimed.proofs.queue.Queue.grow_last.Goals as goal
 

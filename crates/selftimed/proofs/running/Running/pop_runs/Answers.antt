@@ -1,9 +1,9 @@
 use Rattle.std.proofs.Common.{◌≡◌, suc, ◌≤◌, ◌<◌, ◌∷◌, length, drop, take, sym, ap, ◌∙◌, arith}
 use Rattle.std.specs.Prelude.{slice_index}
 use Rattle.selftimed.specs.inside.Runs.{ends_of, run_at, AreRuns}
-use Rattle.selftimed.proofs.Runs.{ends-drop, ends-length, ends-parts, popped-next, popped-past, popped-within, runs-drop}
+use Rattle.selftimed.proofs.RunsListEnds.{ends-drop, ends-length, ends-parts, popped-next, popped-past, popped-within, runs-drop}
 use Rattle.selftimed.proofs.FirstRun.{first-index, first-runs, past-ends, past-kept}
-use Rattle.selftimed.proofs.RunningPrints.{total-pop}
+use Rattle.selftimed.proofs.RunningFingerprints.{total-pop}
 use Rattle.selftimed.proofs.running.Running.pop_runs.Goals as goal
 
 pub ended_by-ended-requires-clause-first : goal.ended_by-ended-requires-clause-first

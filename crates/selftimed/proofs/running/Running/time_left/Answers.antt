@@ -1,6 +1,6 @@
 use Rattle.std.proofs.Common.{◌≡◌, ◌%◌, ◌^◌, length, ap, ◌∙◌}
 use Rattle.std.specs.Prelude.{sum}
-use Rattle.selftimed.proofs.RunningPrints.{left-total}
+use Rattle.selftimed.proofs.RunningFingerprints.{left-total}
 use Rattle.selftimed.proofs.running.Running.time_left.Goals as goal
 
 pub returns : goal.returns

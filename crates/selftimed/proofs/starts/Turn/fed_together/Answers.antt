@@ -1,5 +1,5 @@
 use Rattle.std.proofs.Common.{arith}
-use Rattle.selftimed.proofs.Batches.{batch-none, batch-lower, batch-keep, batch-feeds, batch-fits}
+use Rattle.selftimed.proofs.FiringsStartTogether.{batch-none, batch-lower, batch-keep, batch-feeds, batch-fits}
 use Rattle.selftimed.proofs.starts.Turn.fed_together.Goals as goal
 use Rattle.selftimed.proofs.starts.Turn.fed_together.Goals.{then-count-firings, else-count-firings}
 

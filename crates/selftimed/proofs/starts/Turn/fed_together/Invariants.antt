@@ -1,4 +1,4 @@
-use Rattle.selftimed.proofs.Batches.{BatchSoFar}
+use Rattle.selftimed.proofs.FiringsStartTogether.{BatchSoFar}
 use Rattle.selftimed.proofs.starts.Turn.fed_together.Given as goal
 
 abbrev pub invariant-loop-channel : goal.invariant-loop-channel

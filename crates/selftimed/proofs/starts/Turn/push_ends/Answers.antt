@@ -1,4 +1,4 @@
-use Rattle.selftimed.proofs.Batches.{adds-run, end-at}
+use Rattle.selftimed.proofs.FiringsStartTogether.{adds-run, end-at}
 use Rattle.selftimed.proofs.starts.Turn.push_ends.Goals as goal
 
 pub returns : goal.returns

@@ -1,5 +1,5 @@
 use Rattle.std.proofs.Common.{◌+◌, refl, ◌∙◌, arith}
-use Rattle.selftimed.proofs.Batches.{start-none, start-more, start-over, feeds-one}
+use Rattle.selftimed.proofs.FiringsStartTogether.{start-none, start-more, start-over, feeds-one}
 use Rattle.selftimed.proofs.starts.Turn.start_in_turn.Goals as goal
 
 pub firings-init : goal.firings-init

@@ -1,5 +1,5 @@
 use Rattle.std.proofs.Common.{◌≡◌, ◌-◌, length}
-use Rattle.selftimed.proofs.Batches.{StartSoFar}
+use Rattle.selftimed.proofs.FiringsStartTogether.{StartSoFar}
 use Rattle.selftimed.proofs.starts.Turn.start_in_turn.Given as goal
 
 abbrev pub invariant-firings : goal.invariant-firings

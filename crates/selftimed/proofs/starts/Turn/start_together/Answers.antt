@@ -1,6 +1,6 @@
 use Rattle.std.proofs.Common.{◌≡◌, arith}
 use Rattle.selftimed.specs.inside.Starts.{FeedsNoMore}
-use Rattle.selftimed.proofs.Batches.{starts-together, starts-nothing}
+use Rattle.selftimed.proofs.FiringsStartTogether.{starts-together, starts-nothing}
 use Rattle.selftimed.proofs.starts.Turn.start_together.Goals as goal
 
 pub returns-then-begun-room-clause-starts : goal.returns-then-begun-room-clause-starts

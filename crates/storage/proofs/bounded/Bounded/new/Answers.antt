@@ -3,7 +3,7 @@ use Rattle.sd_base.specs.Net.{Channel, Net}
 use Rattle.sd_base.specs.Lawful.{Lawful}
 use Rattle.storage.specs.BoundedNets.{spaces_from}
 use Rattle.storage.specs.inside.SpaceLists.{space_in, with_spaces}
-use Rattle.storage.proofs.Lawfulness.{bound-lawful}
+use Rattle.storage.proofs.BoundingKeepsLaws.{bound-lawful}
 use Rattle.storage.proofs.bounded.Bounded.new.Goals as goal
 
 with-lawful : (net : Net) (xs ys : List Channel) → xs ≡ ys → Lawful (record { times = net.times; channels = net.channels ++ ys; round = net.round }) → Lawful (record { times = net.times; channels = net.channels ++ xs; round = net.round })

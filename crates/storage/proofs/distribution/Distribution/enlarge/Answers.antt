@@ -1,6 +1,6 @@
 use Rattle.std.proofs.Common.{◌≡◌, ◌≤◌, ◌∙◌, ℕ, Option, List, length, slice_set, ap, sym, arith, rules}
 use Rattle.storage.specs.Distributions.{enlarged}
-use Rattle.storage.proofs.Entries.{enlarged-at, enlarged-past}
+use Rattle.storage.proofs.EntriesAddStorage.{enlarged-at, enlarged-past}
 use Rattle.storage.proofs.distribution.Distribution.enlarge.Goals as goal
 use Rattle.storage.proofs.distribution.Distribution.enlarge.Goals.{then-place-len, else-place-len}
 

@@ -2,7 +2,7 @@ use Rattle.std.proofs.Common.{◌≡◌, suc, None, arith, add-one}
 use Rattle.std.specs.Prelude.{slice_index_or}
 use Rattle.sd_base.specs.Net.{channel_at}
 use Rattle.storage.specs.Distributions.{storage_at}
-use Rattle.storage.proofs.Entries.{storage-more, storage-part}
+use Rattle.storage.proofs.EntriesAddStorage.{storage-more, storage-part}
 use Rattle.storage.proofs.distribution.Distribution.total_within.Goals as goal
 
 pub returns-then-more-from : goal.returns-then-more-from

@@ -1,7 +1,7 @@
 use Rattle.std.proofs.Common.{◌≡◌, ℕ, List, sym, ◌∙◌, subst, rules, arith}
 use Rattle.std.specs.Prelude.{All, slice_index}
 use Rattle.std.proofs.lemmas.List.Elements.{All-more}
-use Rattle.covers.proofs.Places.{all-done}
+use Rattle.covers.proofs.ChangesKeepOrder.{all-done}
 use Rattle.walks.proofs.telling.Telling.shows_same.Goals as goal
 
 pub loop-channel-preserved : goal.loop-channel-preserved

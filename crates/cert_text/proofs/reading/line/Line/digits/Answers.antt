@@ -1,6 +1,6 @@
 use Rattle.std.proofs.Common.{arith}
 use Rattle.cert_text.specs.Digits.{IsNumeral}
-use Rattle.cert_text.proofs.Numerals.{number-none, number-some, number-digits, split-parts}
+use Rattle.cert_text.proofs.DigitsSpellValues.{number-none, number-some, number-digits, split-parts}
 use Rattle.cert_text.proofs.reading.line.Line.digits.Goals as goal
 
 pub returns-then-not-is_numeral-clause-exact : goal.returns-then-not-is_numeral-clause-exact

@@ -1,5 +1,5 @@
 use Rattle.std.proofs.Common.{◌≡◌, ◌∙◌, sym, rules}
-use Rattle.cert_text.proofs.Behind.{behind-ok, behind-short, behind-other}
+use Rattle.cert_text.proofs.WordsLeaveTheRest.{behind-ok, behind-short, behind-other}
 use Rattle.cert_text.proofs.reading.line.Line.word.Goals as goal
 
 pub returns-then-self-word-clause-exact : goal.returns-then-self-word-clause-exact

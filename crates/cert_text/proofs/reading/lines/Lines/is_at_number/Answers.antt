@@ -1,5 +1,5 @@
 use Rattle.std.proofs.Common.{◌∙◌}
-use Rattle.cert_text.proofs.Times.{begins}
+use Rattle.cert_text.proofs.RepeatedReadsGoOn.{begins}
 use Rattle.cert_text.proofs.reading.lines.Lines.is_at_number.Goals as goal
 
 pub returns : goal.returns

@@ -1,0 +1,4 @@
+pub mod WaitsStopFirings
+pub mod LessRoomKeepsWaits
+pub mod FollowingComesBack
+pub mod RoundsAreWaits

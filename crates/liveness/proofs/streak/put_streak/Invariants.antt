@@ -1,5 +1,0 @@
-use Rattle.firing.proofs.TokenMoves.{PutsSoFar}
-use Rattle.liveness.proofs.streak.put_streak.Given as goal
-
-abbrev pub invariant-loop-channel : goal.invariant-loop-channel
-invariant-loop-channel g l = PutsSoFar (g.F.Firing.net l.net) l.from l.firings l.outputs l.initial.tokens l.tokens l.channel-index
