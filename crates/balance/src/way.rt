@@ -6,7 +6,11 @@ use crate::walk::WalkStep;
 use std::alloc::{AllocError, Global};
 
 /// The way to a found actor.
-pub(crate) fn way_to(alloc: Global, found: &[Found], actor: usize) -> Result<Vec<WalkStep>, AllocError>
+pub(crate) fn way_to(
+    alloc: Global,
+    found: &[Found],
+    actor: usize,
+) -> Result<Vec<WalkStep>, AllocError>
     requires found { IsFound found.now actor }
     requires read { HasEntries found.now }
     ensures { IfOk result (λ way. IsWayTo found.now actor way.items) }
@@ -28,7 +32,11 @@ fn place_of(found: &[Found], actor: usize) -> usize
 }
 
 /// The way to the actor that was found at a place, read back step by step. Linear in its steps.
-pub(crate) fn way_at(alloc: Global, found: &[Found], place: usize) -> Result<Vec<WalkStep>, AllocError>
+pub(crate) fn way_at(
+    alloc: Global,
+    found: &[Found],
+    place: usize,
+) -> Result<Vec<WalkStep>, AllocError>
     requires place { place < length found.now }
     requires read { HasEntries found.now }
     ensures { IfOk result (λ way. IsWayAt found.now place way.items) }

@@ -4,8 +4,8 @@
 
 mod bounding;
 mod copies;
-mod merged;
 pub mod laws;
+mod merged;
 mod naming;
 mod shared_channel;
 

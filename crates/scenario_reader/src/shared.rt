@@ -90,7 +90,10 @@ fn all_share(
 
 /// The shared channels: those of the first scenario, which all others have.
 #[tactic(auto, unfolding(crate::specs::ScenarioSections::shared_of))]
-pub(crate) fn read_shared(alloc: Global, scenarios: &[ScenarioRow]) -> Result<Rows<SharedRow>, ReadError>
+pub(crate) fn read_shared(
+    alloc: Global,
+    scenarios: &[ScenarioRow],
+) -> Result<Rows<SharedRow>, ReadError>
     ensures { Gives (λ rows. rows) result (shared_of scenarios.now) }
 {
     let [first, rest @ ..] = scenarios else {

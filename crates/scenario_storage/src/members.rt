@@ -133,12 +133,7 @@ fn offer(
 }
 
 /// A point with its witness.
-fn point_of(
-    total: u64,
-    rate: Fraction,
-    capacities: Distribution,
-    witness: Witness,
-) -> ScenarioPoint
+fn point_of(total: u64, rate: Fraction, capacities: Distribution, witness: Witness) -> ScenarioPoint
     ensures { IsPointWith total rate capacities witness result }
 {
     let Witness {
