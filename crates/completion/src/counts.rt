@@ -1,6 +1,7 @@
 //! By actor how many firings a way of needs has, and their time.
 ghost use Rattle.std.specs.Prelude.{◌≡◌, ℕ, ◌+◌, ◌*◌, ◌^◌, ◌<◌, ◌≤◌, IfOk, length, map, replicate, slice_set, sum};
 ghost use Rattle.completion.specs.Ways.{no_part, part_at};
+ghost use Rattle.sd_base.specs.Ranges.{PART_BOUND};
 
 use sd_base::NoMemory;
 use std::alloc::Global;
@@ -87,7 +88,7 @@ pub(crate) fn clear(parts: &mut [Part])
 /// How many firings there are in all.
 pub(crate) fn firings_in(parts: &[Part]) -> u64
     requires actors { length parts.now ≤ 128 }
-    requires few { (a : ℕ) → a < length parts.now → (part_at parts.now a).firings ≤ 2 ^ 50 }
+    requires few { (a : ℕ) → a < length parts.now → (part_at parts.now a).firings ≤ PART_BOUND }
     ensures { result ≡ sum (map (λ p. p.firings) parts.now) }
 {
     let mut firings = 0;

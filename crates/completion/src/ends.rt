@@ -1,5 +1,6 @@
 //! The firing that ends last.
-ghost use Rattle.std.specs.Prelude.{◌≡◌, ◌^◌, ◌≤◌, ◌<◌, length};
+ghost use Rattle.std.specs.Prelude.{◌≡◌, ◌≤◌, ◌<◌, length};
+ghost use Rattle.sd_base.specs.Ranges.{WIDE_MOMENT_BOUND};
 ghost use Rattle.sd_base.specs.declared.limits.TheConstants.{LEAST_ROUNDS, ROUNDS};
 ghost use Rattle.completion.specs.inside.Timetables.{EndsLast, IsLastOf, IsTimetable};
 
@@ -12,7 +13,7 @@ pub(crate) fn last_to_end<F: Firing>(net: &F, times: &Timetable, rounds: u64) ->
     requires some { LEAST_ROUNDS ≤ rounds }
     requires few { rounds ≤ ROUNDS }
     ensures last { EndsLast (F.net net.now) times.now rounds result }
-    ensures soon { result.moment ≤ 2 ^ 105 }
+    ensures soon { result.moment ≤ WIDE_MOMENT_BOUND }
 {
     know_laws(net);
     let mut last = last_of(net, times, 0, rounds);
@@ -33,7 +34,7 @@ fn last_of<F: Firing>(net: &F, times: &Timetable, actor: u32, rounds: u64) -> St
     requires few { rounds ≤ ROUNDS }
     ensures last { IsLastOf (F.net net.now) times.now rounds result }
     ensures actor { result.actor ≡ actor }
-    ensures soon { result.moment ≤ 2 ^ 105 }
+    ensures soon { result.moment ≤ WIDE_MOMENT_BOUND }
 {
     know_laws(net);
     times.start(actor, rounds * net.round(actor) - 1)

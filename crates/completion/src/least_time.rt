@@ -29,10 +29,10 @@ pub struct Completion {
 
 /// The least time in which any admissible schedule completes `rounds` rounds, each firing of theirs ended. Self-timed
 /// execution completes them first, and what starts after the entry of its loop starts whole periods after the first
-/// pass (Ghamarian et al. 2006). A way of needs of just that time is followed backwards from the firing that ends
-/// last, of several that of the least actor, by the tight need whose channel the net lists first; where the
-/// way comes again to a firing whole passes before, the segment between is counted as often as it fits after the entry,
-/// and isn't gone again. At most `states` shapes are looked at; `steps` counts the call as one execution.
+/// pass (Ghamarian et al. 2006). A way of needs of just that time is followed backwards from the last firing to end (where some
+/// end together, the one whose actor has the least index) by the tight need whose channel the net lists first; where the
+/// way comes again to a firing whole passes before, the segment in between counts for each time that it has room after the
+/// entry, and isn't gone again. At most `states` shapes are looked at; `steps` counts the call as one execution.
 ///
 /// Cost: that of `find_loop`, a second execution up to the entry, and for each firing that is looked at the channels
 /// into its actor. However many rounds there are, no more firings are looked at than start up to the entry and in

@@ -2,7 +2,8 @@
 //!
 //! The starts up to the entry are made twice: the loop's table has only their numbers, so a second execution up to there
 //! makes them. It isn't counted, since no shape is looked for in it.
-ghost use Rattle.std.specs.Prelude.{◌≡◌, ◌+◌, ◌^◌, ◌≤◌, ◌<◌, IfSome, length};
+ghost use Rattle.std.specs.Prelude.{◌≡◌, ◌+◌, ◌≤◌, ◌<◌, IfSome, length};
+ghost use Rattle.sd_base.specs.Ranges.{FIRING_BOUND, FULL_MOMENT_BOUND, WIDE_MOMENT_BOUND};
 ghost use Rattle.sd_base.specs.declared.limits.TheConstants.{TIME};
 ghost use Rattle.sd_base.specs.Schedules.{time_of};
 ghost use Rattle.completion.specs.inside.Timetables.{IsFull, before_of, end_at, moment_of, pass_of};
@@ -32,11 +33,11 @@ impl Timetable {
     pub(crate) fn start(&self, actor: u32, number: u64) -> Start
         requires full { IsFull self.now }
         requires actor { actor < length self.now.table.starts }
-        requires few { number ≤ 2 ^ 40 }
+        requires few { number ≤ FIRING_BOUND }
         ensures actor { result.actor ≡ actor }
         ensures number { result.number ≡ number }
         ensures moment { result.moment ≡ moment_of self.now actor number }
-        ensures soon { result.moment ≤ 2 ^ 105 }
+        ensures soon { result.moment ≤ WIDE_MOMENT_BOUND }
     {
         Start {
             actor,
@@ -49,9 +50,9 @@ impl Timetable {
     fn moment(&self, actor: u32, number: u64) -> u128
         requires full { IsFull self.now }
         requires actor { actor < length self.now.table.starts }
-        requires few { number ≤ 2 ^ 40 }
+        requires few { number ≤ FIRING_BOUND }
         ensures moment { result ≡ moment_of self.now actor number }
-        ensures soon { result ≤ 2 ^ 105 }
+        ensures soon { result ≤ WIDE_MOMENT_BOUND }
     {
         let early = self.early[actor as usize].as_slice();
         let before = early.len() as u64;
@@ -105,7 +106,7 @@ impl Timetable {
 /// When a firing ends.
 pub(crate) fn end<F: Firing>(net: &F, start: Start) -> u128
     requires actor { start.actor < length (F.net net.now).times }
-    requires soon { start.moment ≤ 2 ^ 120 }
+    requires soon { start.moment ≤ FULL_MOMENT_BOUND }
     ensures { result ≡ end_at (F.net net.now) start }
 {
     start.moment + u128::from(time_at(net, start.actor, start.number))

@@ -3,11 +3,12 @@
 //! The way to a completion isn't listed. A way of needs has as many firings as the rounds make it, so its firings are
 //! counted by actor as it is followed backwards, and none of them is kept but one, with which later ones are compared
 //! (Brent 1980, as in the search for the loop). Where the way comes to a firing of that one's actor, whole passes before it
-//! and after the entry, the segment between is counted as often as it fits after the entry, with one multiplication an
-//! actor. A firing after the entry has the same tight needs as the firing a pass later, so these are the firings that would
+//! and after the entry, one multiplication an actor counts the segment in between for each time that it has room after the
+//! entry. A firing after the entry has the same tight needs as the firing a pass later, so these are the firings that would
 //! be passed one by one. A mark for each firing of a pass would find the first such place, and cost a list as long as the
 //! loop; what is told is the same.
-ghost use Rattle.std.specs.Prelude.{◌≡◌, ◌≢◌, ℕ, ◌^◌, ◌≤◌, ◌<◌, IfOk, MatchOption, length};
+ghost use Rattle.std.specs.Prelude.{◌≡◌, ◌≢◌, ℕ, ◌≤◌, ◌<◌, IfOk, MatchOption, length};
+ghost use Rattle.sd_base.specs.Ranges.{PART_BOUND, WIDE_MOMENT_BOUND};
 ghost use Rattle.sd_base.specs.declared.limits.TheConstants.{ROUNDS};
 ghost use Rattle.sd_base.specs.Net.{Net, channel_at};
 ghost use Rattle.firing.specs.declared.sums.Port.TheVariants.{Taken};
@@ -51,9 +52,9 @@ pub(crate) fn parts_of_way<F: Firing>(
     requires times { IsTimetable (F.net wired.now.net.now) times.now }
     requires few { rounds ≤ ROUNDS }
     requires last { EndsLast (F.net wired.now.net.now) times.now rounds last }
-    requires soon { last.moment ≤ 2 ^ 105 }
+    requires soon { last.moment ≤ WIDE_MOMENT_BOUND }
     ensures way { IfOk result (λ parts. HasWay (F.net wired.now.net.now) rounds (end_at (F.net wired.now.net.now) last) parts.items) }
-    ensures few { IfOk result (λ parts. (a : ℕ) → a < length parts.items → (part_at parts.items a).firings ≤ 2 ^ 50) }
+    ensures few { IfOk result (λ parts. (a : ℕ) → a < length parts.items → (part_at parts.items a).firings ≤ PART_BOUND) }
 {
     let mut walk = Walk::new(alloc, wired.net, times, rounds, last)?;
     'way: while walk.here.moment != 0 {
@@ -75,7 +76,7 @@ impl Walk {
         requires times { IsTimetable (F.net net.now) times.now }
         requires few { rounds ≤ ROUNDS }
         requires last { IsLastOf (F.net net.now) times.now rounds last }
-        requires soon { last.moment ≤ 2 ^ 105 }
+        requires soon { last.moment ≤ WIDE_MOMENT_BOUND }
         ensures last { IfOk result (λ walk. walk.last ≡ last) }
         ensures walk { IfOk result (IsWalkBack (F.net net.now) times.now) }
     {

@@ -16,7 +16,7 @@ pub record IsOnLattice (axes : List Axis) (ks : List ℕ) : Type 0 where
 abbrev pub corner_of : List Axis → List ℕ
 corner_of axes = map (λ (a : Axis). a.corner) axes
 
--- the sum over the channels of the capacity times the size of a token
+-- the storage that capacities take: each channel adds the sizes of as many tokens as its capacity says
 abbrev pub storage_of : List Axis → List ℕ → ℕ
 storage_of [] ks = 0
 storage_of (a ∷ axes) [] = 0

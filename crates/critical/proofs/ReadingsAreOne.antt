@@ -1,4 +1,4 @@
--- Each firing is read as the only one of the second pass that lies whole passes away.
+-- Each firing is read as one of the second pass, a whole number of passes away: there is no other such.
 use Rattle.std.proofs.Common.{◌≡◌, ℕ, ◌+◌, ◌-◌, ◌*◌, ◌%◌, ◌≤◌, ◌<◌, length, ⊎_elim, subst, sym, refl, ap, ◌∙◌, arith, mul-le-mul_right}
 use Rattle.std.specs.Int.{div_ceil}
 use Rattle.std.proofs.Math.Nat.{add-mul-mod_self_right, mod-eq_of_lt}
@@ -30,7 +30,7 @@ number_in table a k = second_of table a + (k + second_of table a * (count_of tab
 pub read_in : LoopTable → FiringNo → FiringNo
 read_in table x = record { actor = x.actor; number = number_in table x.actor x.number }
 
--- it is the only one of the second pass that lies whole passes away
+-- no other firing of the second pass is a whole number of passes away
 pub read-is : (table : LoopTable) (y z : FiringNo) → IsSecond table y → (i j : ℕ) → z.actor ≡ y.actor → y.number + i * count_of table.starts y.actor ≡ z.number + j * count_of table.starts y.actor → read_in table z ≡ y
 unfolding read_in number_in
 read-is table y z second i j actor same =

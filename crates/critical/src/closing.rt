@@ -2,6 +2,7 @@
 ghost use Rattle.std.specs.Prelude.{◌≡◌, ◌+◌, ◌-◌, ◌*◌, ◌<◌, ◌≤◌, IfOk, length, slice_index};
 ghost use Rattle.critical.specs.CriticalCycles.{IsCriticalCycleOf};
 ghost use Rattle.critical.specs.inside.Trails.{IsShortLoop, IsSecond, ComesAgain, GoesAlong, IsLeastRounds, met_at, raised_number, lowered_firing, steps_of};
+ghost use Rattle.sd_base.specs.Ranges.{PASSED_ROUNDS_BOUND};
 
 use crate::cycle::{CycleStep, FiringNo, NeedCycle};
 use crate::steps::CycleSteps;
@@ -83,7 +84,7 @@ fn raised<F: Firing>(net: &F, table: &LoopTable, met: Met, passes: u64) -> u64
     requires table { IsShortLoop (F.net net.now) table.now }
     requires second { IsSecond table.now met.firing }
     requires before { met.passes ≤ passes }
-    requires near { passes * table.now.rounds ≤ 32000000000000 }
+    requires near { passes * table.now.rounds ≤ PASSED_ROUNDS_BOUND }
     ensures { result ≡ raised_number (F.net net.now) table.now passes met }
 {
     met.firing.number + (passes - met.passes) * table.rounds * net.round(met.firing.actor)
@@ -94,7 +95,7 @@ fn lowered<F: Firing>(net: &F, table: &LoopTable, met: Met, passes: u64, rounds:
     requires table { IsShortLoop (F.net net.now) table.now }
     requires second { IsSecond table.now met.firing }
     requires before { met.passes ≤ passes }
-    requires near { passes * table.now.rounds ≤ 32000000000000 }
+    requires near { passes * table.now.rounds ≤ PASSED_ROUNDS_BOUND }
     requires enough { rounds * slice_index (F.net net.now).round met.firing.actor ≤ raised_number (F.net net.now) table.now passes met }
     ensures { result ≡ lowered_firing (F.net net.now) table.now passes rounds met }
 {

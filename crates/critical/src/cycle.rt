@@ -1,4 +1,5 @@
 ghost use Rattle.std.specs.Prelude.{◌≡◌, ◌+◌, ◌*◌, ◌^◌, ◌<◌, ◌≤◌, ◌↔◌, IsTrue, MatchOption, flat_map, length, slice_index};
+ghost use Rattle.sd_base.specs.Ranges.{MOMENT_BOUND};
 ghost use Rattle.sd_base.specs.declared.limits.TheConstants.{TIME};
 ghost use Rattle.sd_base.specs.Net.{channel_at, total};
 ghost use Rattle.sd_base.specs.Schedules.{time_of, LastNeed};
@@ -100,7 +101,7 @@ fn end_of_stretch<F: Firing>(net: &F, from: ChainEnd, stretch: Stretch) -> Optio
     requires { from.time ≤ 2 ^ 126 }
     ensures { MatchOption result (¬ IsChain (F.net net.now) from.last (steps_in stretch)) (λ e. IsChain (F.net net.now) from.last (steps_in stretch)
         × (e.last ≡ last_of from.last (steps_in stretch)) × (e.time ≡ from.time + time_along (F.net net.now) from.last (steps_in stretch))
-        × (e.time ≤ from.time + 2 ^ 62)) }
+        × (e.time ≤ from.time + MOMENT_BOUND)) }
 {
     let mut end = from;
     for behind in 0..stretch.count {

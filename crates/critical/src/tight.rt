@@ -1,5 +1,6 @@
 //! Tight needs: needs that end just when the firing that has them starts.
-ghost use Rattle.std.specs.Prelude.{◌≡◌, ◌↔◌, ◌+◌, ◌*◌, ◌^◌, ◌<◌, ◌≤◌, IfSome, IsTrue, MatchOption, length};
+ghost use Rattle.std.specs.Prelude.{◌≡◌, ◌↔◌, ◌+◌, ◌*◌, ◌<◌, ◌≤◌, IfSome, IsTrue, MatchOption, length};
+ghost use Rattle.sd_base.specs.Ranges.{FIRING_BOUND};
 ghost use Rattle.sd_base.specs.Net.{channel_at};
 ghost use Rattle.sd_base.specs.Schedules.{count_of, time_of, IsNeed, LastNeed};
 ghost use Rattle.firing.specs.declared.sums.Port.TheVariants.{Taken};
@@ -69,7 +70,7 @@ pub(crate) fn tight_on<F: Firing>(
 /// `need`.
 fn need_of<F: Firing>(net: &F, channel: u32, firing: u64) -> u64
     requires channel { channel < length (F.net net.now).channels }
-    requires few { firing ≤ 2 ^ 40 }
+    requires few { firing ≤ FIRING_BOUND }
     ensures { IsNeed (channel_at (F.net net.now) channel) firing result }
 {
     if port_phases(net, channel, Port::Made) == 1 && port_phases(net, channel, Port::Taken) == 1 {
@@ -82,7 +83,7 @@ fn need_of<F: Firing>(net: &F, channel: u32, firing: u64) -> u64
 /// The same where both ends of the channel have one phase.
 fn single_need<F: Firing>(net: &F, channel: u32, firing: u64) -> u64
     requires channel { channel < length (F.net net.now).channels }
-    requires few { firing ≤ 2 ^ 40 }
+    requires few { firing ≤ FIRING_BOUND }
     requires made { length (channel_at (F.net net.now) channel).made ≡ 1 }
     requires taken { length (channel_at (F.net net.now) channel).taken ≡ 1 }
     ensures { IsNeed (channel_at (F.net net.now) channel) firing result }

@@ -1,7 +1,8 @@
 //! The search for a need cycle on no free space: depth first back along the tight needs of the second pass round the loop, by
 //! which a cycle with the loop's rounds per time goes. A firing is left only after all that it needs so, so where no way comes
 //! round there is no such cycle.
-ghost use Rattle.std.specs.Prelude.{◌≡◌, ◌≢◌, ◌+◌, ◌-◌, ◌^◌, ◌<◌, ◌≤◌, ℕ, [], None, IfOk, IfSome, MatchBool, MatchOption, length};
+ghost use Rattle.std.specs.Prelude.{◌≡◌, ◌≢◌, ◌+◌, ◌-◌, ◌<◌, ◌≤◌, ℕ, [], None, IfOk, IfSome, MatchBool, MatchOption, length};
+ghost use Rattle.sd_base.specs.Ranges.{COUNT_BOUND, MOMENT_BOUND};
 ghost use Rattle.sd_base.specs.declared.limits.TheConstants.{STARTS};
 ghost use Rattle.sd_base.specs.declared.role.Role.TheVariants.{Space};
 ghost use Rattle.sd_base.specs.Schedules.{HasInputs};
@@ -178,8 +179,8 @@ impl<'a, F: Firing> Pass<'a, F> {
     /// A tight need of a firing met, met next.
     fn met_next(&self, here: Met, need: ReadNeed) -> Met
         requires pass { IsSearchable (F.net self.now.wired.now.net.now) self.now.table.now self.now.offsets.now }
-        requires near { here.passes ≤ 2 ^ 62 }
-        requires soon { here.time ≤ 2 ^ 62 }
+        requires near { here.passes ≤ COUNT_BOUND }
+        requires soon { here.time ≤ MOMENT_BOUND }
         requires need { IsTightNeed (F.net self.now.wired.now.net.now) self.now.table.now here.firing need }
         ensures leads { Leads (F.net self.now.wired.now.net.now) self.now.table.now here result }
         ensures firing { result.firing ≡ need.firing }

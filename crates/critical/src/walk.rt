@@ -1,6 +1,7 @@
 //! The way back along tight needs, until a firing comes again whole passes before.
-ghost use Rattle.std.specs.Prelude.{◌≡◌, ◌+◌, ◌*◌, ◌<◌, ◌≤◌, ◌^◌, IfOk, length};
+ghost use Rattle.std.specs.Prelude.{◌≡◌, ◌+◌, ◌*◌, ◌<◌, ◌≤◌, IfOk, length};
 ghost use Rattle.critical.specs.inside.Trails.{IsShort, IsShortLoop, IsSecond, IsSlackBefore, AreFirst, Leads, ComesAgain, first_firing, met_at};
+ghost use Rattle.sd_base.specs.Ranges.{COUNT_BOUND, MOMENT_BOUND};
 
 use crate::cycle::{FiringNo, time_at};
 use crate::marks::{class_of, mark, no_marks, offsets, places_of};
@@ -90,8 +91,8 @@ fn first_met(table: &LoopTable) -> Met
 fn next_met<F: Firing>(wired: &Wired<F>, table: &LoopTable, here: Met) -> Met
     requires table { IsShortLoop (F.net wired.now.net.now) table.now }
     requires second { IsSecond table.now here.firing }
-    requires near { here.passes ≤ 2 ^ 62 }
-    requires soon { here.time ≤ 2 ^ 62 }
+    requires near { here.passes ≤ COUNT_BOUND }
+    requires soon { here.time ≤ MOMENT_BOUND }
     ensures leads { Leads (F.net wired.now.net.now) table.now here result }
     ensures first { IsSlackBefore (F.net wired.now.net.now) table.now here.firing result.channel }
 {

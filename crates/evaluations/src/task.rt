@@ -10,8 +10,8 @@ use sd_base::{Fraction, Ledger, Steps};
 use std::alloc::Global;
 use storage::Distribution;
 
-/// The evaluation of one distribution, with the wiring of its net, counts that are reached there, the best rate so far, a share
-/// of the counter and a place for what is kept of the answer.
+/// The evaluation of one distribution, with the wiring of its net, counts that are reached there, the best rate so far, its
+/// share of the counter, and where to put what is kept of the answer.
 pub(crate) struct Task<'a, F: Firing, L: Ledger> {
     pub(crate) alloc: Global,
     pub(crate) net: &'a F,

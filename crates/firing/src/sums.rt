@@ -1,4 +1,5 @@
-ghost use Rattle.std.specs.Prelude.{◌≡◌, ◌+◌, ◌-◌, ◌*◌, ◌^◌, ◌<◌, ◌≤◌, length, slice_index};
+ghost use Rattle.std.specs.Prelude.{◌≡◌, ◌+◌, ◌-◌, ◌*◌, ◌<◌, ◌≤◌, length, slice_index};
+ghost use Rattle.sd_base.specs.Ranges.{FIRING_BOUND, WIDE_FIRING_BOUND};
 ghost use Rattle.sd_base.specs.declared.limits.TheConstants.{RATE};
 ghost use Rattle.sd_base.specs.Net.{channel_at, total};
 ghost use Rattle.sd_base.specs.Schedules.{IsNeed};
@@ -19,7 +20,7 @@ pub enum Port {
 /// `Firing::made_before`.
 pub fn made_sum<F: Firing>(net: &F, channel: u32, firings: u128) -> u128
     requires channel { channel < length (F.net net.now).channels }
-    requires few { firings ≤ 2 ^ 96 }
+    requires few { firings ≤ WIDE_FIRING_BOUND }
     ensures { result ≡ total (channel_at (F.net net.now) channel).made firings }
 {
     port_sum(net, channel, Port::Made, firings)
@@ -29,7 +30,7 @@ pub fn made_sum<F: Firing>(net: &F, channel: u32, firings: u128) -> u128
 /// `Firing::taken_before`.
 pub fn taken_sum<F: Firing>(net: &F, channel: u32, firings: u128) -> u128
     requires channel { channel < length (F.net net.now).channels }
-    requires few { firings ≤ 2 ^ 96 }
+    requires few { firings ≤ WIDE_FIRING_BOUND }
     ensures { result ≡ total (channel_at (F.net net.now) channel).taken firings }
 {
     port_sum(net, channel, Port::Taken, firings)
@@ -38,7 +39,7 @@ pub fn taken_sum<F: Firing>(net: &F, channel: u32, firings: u128) -> u128
 /// The sum over whole turns of the phases and a rest.
 fn port_sum<F: Firing>(net: &F, channel: u32, port: Port, firings: u128) -> u128
     requires channel { channel < length (F.net net.now).channels }
-    requires few { firings ≤ 2 ^ 96 }
+    requires few { firings ≤ WIDE_FIRING_BOUND }
     ensures { result ≡ total (rates_at port (channel_at (F.net net.now) channel)) firings }
 {
     let phases = port_phases(net, channel, port);
@@ -92,7 +93,7 @@ pub fn port_rate<F: Firing>(net: &F, channel: u32, port: Port, phase: u32) -> u6
 /// number `firing` of its target. Cost: that of `Firing::made_before` times the logarithm of the phases.
 pub fn need<F: Firing>(net: &F, channel: u32, firing: u64) -> u64
     requires channel { channel < length (F.net net.now).channels }
-    requires few { firing ≤ 2 ^ 40 }
+    requires few { firing ≤ FIRING_BOUND }
     ensures { IsNeed (channel_at (F.net net.now) channel) firing result }
 {
     know_laws(net);

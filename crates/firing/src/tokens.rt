@@ -1,4 +1,5 @@
 ghost use Rattle.std.specs.Prelude.{◌≡◌, ℕ, ◌+◌, ◌*◌, ◌%◌, ◌^◌, ◌<◌, ◌≤◌, length, map, slice_index, IfOk, MatchOption};
+ghost use Rattle.sd_base.specs.Ranges.{WIDE_TOKEN_BOUND};
 ghost use Rattle.sd_base.specs.declared.limits.TheConstants.{RATE};
 ghost use Rattle.sd_base.specs.Net.{Channel, channel_at, phase_entry, total};
 ghost use Rattle.firing.specs.declared.sums.Port.TheVariants.{Made, Taken};
@@ -79,7 +80,7 @@ pub fn put_tokens<F: Firing>(
     requires listed { IsListed (F.net net.now) Made actor outputs.now }
     requires tokens { length tokens.old ≡ length (F.net net.now).channels }
     requires few { from + firings < 2 ^ 64 }
-    requires small { (i : ℕ) → i < length (F.net net.now).channels → slice_index tokens.old i ≤ 2 ^ 100 }
+    requires small { (i : ℕ) → i < length (F.net net.now).channels → slice_index tokens.old i ≤ WIDE_TOKEN_BOUND }
     ensures { PutsTokens (F.net net.now) actor from firings tokens.old tokens.new }
 {
     for channel in outputs {

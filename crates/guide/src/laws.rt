@@ -44,8 +44,8 @@ pub fn distributions_share_a_wiring()
 {}
 
 /// Room elsewhere than in its guide gains a distribution nothing, however long its loop is and whether it is evaluated or not:
-/// another one with the same capacities on the storage dependencies of its loop has no greater rate, and one with the same
-/// capacities on the channels that counts at which it is blocked show has rate 0 (Stuijk, Geilen and Basten 2008).
+/// another one with the same capacities on the storage dependencies of its loop has no greater rate, and where counts at
+/// which it is blocked show channels, one that gives just these the same capacities has rate 0 (Stuijk, Geilen and Basten 2008).
 pub fn room_elsewhere_gains_nothing()
     ensures dependencies { (net : Net) (ds es : List (Option ℕ)) (entry period p q x y : ℕ) → Lawful (bound net ds) → HasInputs (bound net ds) → IsConnected net →
         IsLoop (bound net ds) entry period → ((c : ℕ) → IsDependency (bound net ds) entry period c → capacity_at es c ≡ capacity_at ds c) →

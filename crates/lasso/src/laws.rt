@@ -25,8 +25,8 @@ pub fn one_ending()
         starts_by net (entry + period) ≤ STARTS → ¬ IsTooManyStarts net states }
 {}
 
-/// Too many firings start exactly where they do up to and with the last of the first `states` shapes if
-/// these are all different, and up to and with the first repeat otherwise.
+/// The answer of too many starts comes exactly where more than `STARTS` firings start by the moment at which a shape comes
+/// again, or by the last of the first `states` shapes where none of these does.
 pub fn starts_are_counted_to_the_first_repeat()
     ensures { (net : Net) (states : ℕ) → Lawful net → HasInputs net → IsLive net → 1 ≤ states →
         IsTooManyStarts net states ↔ PassesStarts net states }

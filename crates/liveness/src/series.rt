@@ -1,5 +1,6 @@
 //! A series of firings: those of an actor of one phase that follow each other, with none of another actor between.
 ghost use Rattle.std.specs.Prelude.{◌≡◌, ◌≢◌, ℕ, List, ◌+◌, ◌*◌, ◌++◌, ◌^◌, ◌<◌, ◌≤◌, IfOk, OnOk, MatchBool, length, replicate, slice_index};
+ghost use Rattle.sd_base.specs.Ranges.{WIDE_TOKEN_BOUND};
 ghost use Rattle.sd_base.specs.declared.limits.TheConstants.{RATE};
 ghost use Rattle.sd_base.specs.Net.{channel_at, total};
 ghost use Rattle.sd_base.specs.Schedules.{phases_at};
@@ -130,7 +131,7 @@ fn put_series<F: Firing>(
     requires single { phases_at (F.net net.now) actor ≡ 1 }
     requires listed { IsListed (F.net net.now) Made actor outputs.now }
     requires tokens { length tokens.old ≡ length (F.net net.now).channels }
-    requires small { (i : ℕ) → i < length (F.net net.now).channels → slice_index tokens.old i ≤ 2 ^ 100 }
+    requires small { (i : ℕ) → i < length (F.net net.now).channels → slice_index tokens.old i ≤ WIDE_TOKEN_BOUND }
     ensures { PutsTokens (F.net net.now) actor from firings tokens.old tokens.new }
 {
     know_laws(net);

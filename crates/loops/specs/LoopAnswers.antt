@@ -13,7 +13,7 @@ use Rattle.loops.specs.declared.error.RunError.TheVariants.{StatesSpent, TooMany
 abbrev pub FirstDiffer : Net → ℕ → Type 0
 FirstDiffer net n = (t u : ℕ) → IsEvent net t → IsEvent net u → t < u → events_by net u ≤ n → shape_at net t ≢ shape_at net u
 
--- the first `states` shapes are all different, and at most STARTS firings have started up to and with the last of them
+-- no two of the first `states` shapes agree, and by the last of them at most STARTS firings have started
 pub record IsStatesSpent (net : Net) (states : ℕ) : Type 0 where
   pub last : ℕ
   pub event : IsEvent net last
@@ -30,8 +30,8 @@ pub record IsTooManyStarts (net : Net) (states : ℕ) : Type 0 where
   pub differ : (t u : ℕ) → IsEvent net t → IsEvent net u → t < u → u < last → shape_at net t ≢ shape_at net u
   pub many : STARTS < starts_by net last
 
--- more than STARTS firings start up to and with the last of the first `states` shapes if these are all different, and up
--- to and with the first repeat otherwise
+-- more than STARTS firings start by the moment at which a shape comes again, or by the last of the first `states` shapes
+-- where none of these does
 abbrev pub PassesStarts : Net → ℕ → Type 0
 PassesStarts net states =
     (FirstDiffer net states × ((last : ℕ) × IsEvent net last × (events_by net last ≡ states) × (STARTS < starts_by net last)))

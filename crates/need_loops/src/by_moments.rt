@@ -13,7 +13,8 @@
 //! Nothing can come again within a round, so the first steps aim at its starts, by how many the last step had, and go at
 //! most as far again as before, since many actors start late. After that a step has about a thirty-second of a round, and
 //! the test for a loop ends at the first firing that isn't like the one a round before, mostly soon.
-ghost use Rattle.std.specs.Prelude.{◌≡◌, ℕ, ◌+◌, ◌*◌, ◌^◌, ◌≤◌, ◌<◌, IfOk, IfSome, length};
+ghost use Rattle.std.specs.Prelude.{◌≡◌, ℕ, ◌+◌, ◌*◌, ◌≤◌, ◌<◌, IfOk, IfSome, length};
+ghost use Rattle.sd_base.specs.Ranges.{COUNT_BOUND, HALF_MOMENT_BOUND, MOMENT_BOUND, ROUND_BOUND};
 ghost use Rattle.sd_base.specs.declared.limits.TheConstants.{LEAST_STATES};
 ghost use Rattle.sd_base.specs.Schedules.{HasInputs, phases_at};
 ghost use Rattle.sd_base.specs.Connection.{IsConnected};
@@ -111,7 +112,7 @@ impl Pace {
     /// How far the rows grow.
     fn reach(&self) -> Reach
         ensures until { result.until ≡ self.now.until }
-        ensures rounds { result.rounds ≤ 2 ^ 20 }
+        ensures rounds { result.rounds ≤ ROUND_BOUND }
     {
         Reach {
             until: self.until,
@@ -122,8 +123,8 @@ impl Pace {
     /// Goes on to the starts of a round, where it has `round` and there are `total`, or further by a part of one, but at most as
     /// far again as already.
     fn go_on(&mut self, round: u64, total: u64)
-        requires soon { self.old.until ≤ 2 ^ 61 }
-        requires few { total ≤ 2 ^ 62 }
+        requires soon { self.old.until ≤ HALF_MOMENT_BOUND }
+        requires few { total ≤ COUNT_BOUND }
         ensures further { self.old.until ≤ self.new.until }
         ensures soon { self.new.until ≤ 2 * self.old.until + 1 }
     {
@@ -148,7 +149,7 @@ fn loop_at<F: Firing>(
     requires connected { IsConnected (F.net net.now) }
     requires inputs { HasInputs (F.net net.now) }
     requires grown { IsGrowth (F.net net.now) until growth.now }
-    requires soon { until ≤ 2 ^ 62 }
+    requires soon { until ≤ MOMENT_BOUND }
     ensures { IfOk result (λ o. IfSome o (IsLoopIn (F.net net.now) growth.now.starts.items)) }
 {
     let starts = growth.starts.as_slice();

@@ -1,5 +1,6 @@
 //! What the next firing of each actor needs, kept as rows of starts grow.
-ghost use Rattle.std.specs.Prelude.{◌≡◌, ℕ, ◌+◌, ◌^◌, ◌≤◌, ◌<◌, [], IfOk, IfSome, length, replicate};
+ghost use Rattle.std.specs.Prelude.{◌≡◌, ℕ, ◌+◌, ◌≤◌, ◌<◌, [], IfOk, IfSome, length, replicate};
+ghost use Rattle.sd_base.specs.Ranges.{COUNT_BOUND, FIRING_BOUND};
 ghost use Rattle.sd_base.specs.declared.limits.TheConstants.{NET_TOKENS, RATE};
 ghost use Rattle.sd_base.specs.Net.{channel_at};
 ghost use Rattle.sd_base.specs.Schedules.{phases_at};
@@ -62,7 +63,7 @@ impl Feed {
         requires made { self.old.made ≤ RATE }
         requires taken { self.old.taken ≤ RATE }
         requires left { self.old.left ≤ NET_TOKENS }
-        requires few { self.old.firings ≤ 2 ^ 62 }
+        requires few { self.old.firings ≤ COUNT_BOUND }
         ensures { Advances self.old self.new }
     {
         let mut left = self.left;
@@ -105,7 +106,7 @@ impl NextFiring {
     #[inline(always)]
     pub(crate) fn advance<F: Firing>(&mut self, net: &F, actor: u32, firing: u64)
         requires next { IsNextOf (F.net net.now) actor firing self.old }
-        requires few { firing ≤ 2 ^ 40 }
+        requires few { firing ≤ FIRING_BOUND }
         ensures { IsNextOf (F.net net.now) actor (firing + 1) self.new }
     {
         know_laws(net);

@@ -1,5 +1,6 @@
 //! Rows of starts that grow by needs.
-ghost use Rattle.std.specs.Prelude.{◌≡◌, ℕ, ◌^◌, ◌≤◌, ◌<◌, IfOk, OnOk, length};
+ghost use Rattle.std.specs.Prelude.{◌≡◌, ℕ, ◌≤◌, ◌<◌, IfOk, OnOk, length};
+ghost use Rattle.sd_base.specs.Ranges.{MOMENT_BOUND, ROUND_BOUND};
 ghost use Rattle.sd_base.specs.Schedules.{phases_at};
 ghost use Rattle.need_loops.specs.inside.Growing.{IsGrowth};
 
@@ -55,8 +56,8 @@ impl Growth {
         reach: Reach,
     ) -> Result<(), NoMemory>
         requires grown { IsGrowth (F.net wired.now.net.now) reach.until self.old }
-        requires soon { reach.until ≤ 2 ^ 62 }
-        requires few { reach.rounds ≤ 2 ^ 20 }
+        requires soon { reach.until ≤ MOMENT_BOUND }
+        requires few { reach.rounds ≤ ROUND_BOUND }
         ensures { OnOk result (IsGrowth (F.net wired.now.net.now) reach.until self.new) }
     {
         extend_all(

@@ -1,5 +1,6 @@
 //! Starts of self-timed execution by needs: a firing starts when the last of the firings that it needs ends.
-ghost use Rattle.std.specs.Prelude.{◌≡◌, ◌≢◌, ℕ, ◌^◌, ◌≤◌, ◌<◌, [], IsTrue, MatchOption, OnOk, length, slice_index, slice_index_or};
+ghost use Rattle.std.specs.Prelude.{◌≡◌, ◌≢◌, ℕ, ◌≤◌, ◌<◌, [], IsTrue, MatchOption, OnOk, length, slice_index, slice_index_or};
+ghost use Rattle.sd_base.specs.Ranges.{FIRING_BOUND, MOMENT_BOUND, ROUND_BOUND};
 ghost use Rattle.sd_base.specs.Schedules.{HasInputs, count_of};
 ghost use Rattle.loops.specs.StartRows.{AreStarts};
 ghost use Rattle.need_loops.specs.inside.Needing.{AreDue, AreNext, IsNextOf, IsStuck, StartsNext};
@@ -33,7 +34,7 @@ fn next_start<F: Firing>(
     requires actor { actor < length (F.net net.now).times }
     requires due { AreDue (F.net net.now) until starts.now }
     requires next { IsNextOf (F.net net.now) actor (count_of starts.now actor) next.now }
-    requires soon { until ≤ 2 ^ 62 }
+    requires soon { until ≤ MOMENT_BOUND }
     ensures { MatchOption result (IsStuck (F.net net.now) starts.now actor) (StartsNext (F.net net.now) starts.now actor) }
 {
     know_laws(net);
@@ -69,8 +70,8 @@ fn extend<F: Firing>(
     requires actor { actor < length (F.net net.now).times }
     requires due { AreDue (F.net net.now) until starts.old }
     requires next { IsNextOf (F.net net.now) actor (count_of starts.old actor) next.old }
-    requires soon { until ≤ 2 ^ 62 }
-    requires few { most ≤ 2 ^ 40 }
+    requires soon { until ≤ MOMENT_BOUND }
+    requires few { most ≤ FIRING_BOUND }
     ensures long { length starts.new ≡ length starts.old }
     ensures due { OnOk result (AreDue (F.net net.now) until starts.new) }
     ensures next { OnOk result (IsNextOf (F.net net.now) actor (count_of starts.new actor) next.new) }
@@ -101,8 +102,8 @@ pub(crate) fn extend_all<F: Firing>(
     requires due { AreDue (F.net wired.now.net.now) reach.until starts.old }
     requires next { AreNext (F.net wired.now.net.now) starts.old firings.old }
     requires flags { length flags.old ≡ length (F.net wired.now.net.now).times }
-    requires soon { reach.until ≤ 2 ^ 62 }
-    requires few { reach.rounds ≤ 2 ^ 20 }
+    requires soon { reach.until ≤ MOMENT_BOUND }
+    requires few { reach.rounds ≤ ROUND_BOUND }
     ensures flags { length flags.new ≡ length flags.old }
     ensures due { OnOk result (AreDue (F.net wired.now.net.now) reach.until starts.new) }
     ensures next { OnOk result (AreNext (F.net wired.now.net.now) starts.new firings.new) }
@@ -132,8 +133,8 @@ fn sweep<F: Firing>(
     requires due { AreDue (F.net wired.now.net.now) reach.until starts.old }
     requires next { AreNext (F.net wired.now.net.now) starts.old firings.old }
     requires flags { length flags.old ≡ length (F.net wired.now.net.now).times }
-    requires soon { reach.until ≤ 2 ^ 62 }
-    requires few { reach.rounds ≤ 2 ^ 20 }
+    requires soon { reach.until ≤ MOMENT_BOUND }
+    requires few { reach.rounds ≤ ROUND_BOUND }
     ensures flags { length flags.new ≡ length flags.old }
     ensures due { OnOk result (AreDue (F.net wired.now.net.now) reach.until starts.new) }
     ensures next { OnOk result (AreNext (F.net wired.now.net.now) starts.new firings.new) }
@@ -188,7 +189,7 @@ pub(crate) fn are_whole<F: Firing>(
     requires inputs { HasInputs (F.net net.now) }
     requires due { AreDue (F.net net.now) until starts.now }
     requires next { AreNext (F.net net.now) starts.now firings.now }
-    requires soon { until ≤ 2 ^ 62 }
+    requires soon { until ≤ MOMENT_BOUND }
     ensures { IsTrue result → AreStarts (F.net net.now) until starts.now }
 {
     know_laws(net);

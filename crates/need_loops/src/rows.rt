@@ -1,5 +1,6 @@
 //! What rows of starts show of a loop, without the events of the execution.
-ghost use Rattle.std.specs.Prelude.{◌≡◌, ◌↔◌, ℕ, ◌+◌, ◌-◌, ◌^◌, ◌≤◌, ◌<◌, IfSome, IsTrue, length, slice_index};
+ghost use Rattle.std.specs.Prelude.{◌≡◌, ◌↔◌, ℕ, ◌+◌, ◌-◌, ◌≤◌, ◌<◌, IfSome, IsTrue, length, slice_index};
+ghost use Rattle.sd_base.specs.Ranges.{MOMENT_BOUND, ROUND_BOUND};
 ghost use Rattle.sd_base.specs.Schedules.{HasInputs, phases_at, time_of};
 ghost use Rattle.sd_base.specs.SelfTimed.{IsEvent};
 ghost use Rattle.sd_base.specs.Rates.{IsLoop};
@@ -26,10 +27,10 @@ pub(crate) fn entry_by_rows<F: Firing>(
     requires connected { IsConnected (F.net net.now) }
     requires inputs { HasInputs (F.net net.now) }
     requires order { pair.earlier < pair.later }
-    requires soon { pair.later ≤ 2 ^ 62 }
+    requires soon { pair.later ≤ MOMENT_BOUND }
     requires starts { AreStarts (F.net net.now) pair.later starts.now }
     requires some { 1 ≤ rounds }
-    requires few { rounds ≤ 2 ^ 20 }
+    requires few { rounds ≤ ROUND_BOUND }
     ensures before { IfSome result (λ entry. entry ≤ pair.earlier) }
     ensures loops { IfSome result (λ entry. IsLoop (F.net net.now) entry (pair.later - pair.earlier)) }
 {
@@ -48,7 +49,7 @@ fn settled_since<F: Firing>(net: &F, starts: &[Rows<u64>], pair: Pair, rounds: u
     requires inputs { HasInputs (F.net net.now) }
     requires order { pair.earlier < pair.later }
     requires starts { AreStarts (F.net net.now) pair.later starts.now }
-    requires few { rounds ≤ 2 ^ 20 }
+    requires few { rounds ≤ ROUND_BOUND }
     ensures { IfSome result (SettlesFrom (F.net net.now) starts.now rounds pair.earlier pair.later) }
 {
     know_laws(net);
@@ -76,7 +77,7 @@ fn doubled_since<F: Firing>(net: &F, starts: &[Rows<u64>], from: u64, pair: Pair
     requires single { (a : ℕ) → a < length (F.net net.now).times → phases_at (F.net net.now) a ≡ 1 }
     requires inputs { HasInputs (F.net net.now) }
     requires order { pair.earlier < pair.later }
-    requires soon { pair.later ≤ 2 ^ 62 }
+    requires soon { pair.later ≤ MOMENT_BOUND }
     requires from { from ≤ pair.earlier }
     requires starts { AreStarts (F.net net.now) pair.later starts.now }
     ensures { IfSome result (IsFirstDoubled (F.net net.now) from (pair.later - pair.earlier) pair.earlier) }
@@ -115,7 +116,7 @@ fn is_event<F: Firing>(net: &F, starts: &[Rows<u64>], moment: u64) -> bool
 fn event_from<F: Firing>(net: &F, starts: &[Rows<u64>], from: u64, until: u64) -> Option<u64>
     requires single { (a : ℕ) → a < length (F.net net.now).times → phases_at (F.net net.now) a ≡ 1 }
     requires inputs { HasInputs (F.net net.now) }
-    requires soon { until ≤ 2 ^ 62 }
+    requires soon { until ≤ MOMENT_BOUND }
     requires starts { AreStarts (F.net net.now) until starts.now }
     ensures { IfSome result (IsFirstEvent (F.net net.now) from until) }
 {
@@ -153,7 +154,7 @@ fn end_from<F: Firing>(net: &F, actor: u32, row: &[u64], from: u64) -> u64
     requires actor { actor < length (F.net net.now).times }
     requires single { phases_at (F.net net.now) actor ≡ 1 }
     requires ascend { Ascend row.now }
-    requires soon { (k : ℕ) → k < length row.now → slice_index row.now k ≤ 2 ^ 62 }
+    requires soon { (k : ℕ) → k < length row.now → slice_index row.now k ≤ MOMENT_BOUND }
     ensures { IsFirstEnd (F.net net.now) actor row.now from result }
 {
     know_laws(net);

@@ -1,5 +1,6 @@
 //! The loop that rows of starts show.
-ghost use Rattle.std.specs.Prelude.{◌≡◌, ℕ, ◌^◌, ◌≤◌, ◌<◌, IfOk, IfSome, length, map, sum};
+ghost use Rattle.std.specs.Prelude.{◌≡◌, ℕ, ◌≤◌, ◌<◌, IfOk, IfSome, length, map, sum};
+ghost use Rattle.sd_base.specs.Ranges.{MOMENT_BOUND, ROUND_BOUND};
 ghost use Rattle.sd_base.specs.Schedules.{HasInputs, phases_at};
 ghost use Rattle.sd_base.specs.Connection.{IsConnected};
 ghost use Rattle.loops.specs.StartRows.{AreStarts};
@@ -32,7 +33,7 @@ pub(crate) fn last_pair<F: Firing>(
     rounds: u64,
 ) -> Option<Pair>
     requires rows { length starts.now ≡ length (F.net net.now).times }
-    requires few { rounds ≤ 2 ^ 20 }
+    requires few { rounds ≤ ROUND_BOUND }
     ensures later { IfSome result (λ pair. pair.later ≡ until) }
     ensures order { IfSome result (λ pair. pair.earlier < pair.later) }
 {
@@ -69,7 +70,7 @@ fn lead_of<F: Firing>(net: &F) -> u32
 fn took<F: Firing>(net: &F, starts: &[Rows<u64>], actor: u32, rounds: u64) -> u64
     requires rows { length starts.now ≡ length (F.net net.now).times }
     requires actor { actor < length (F.net net.now).times }
-    requires few { rounds ≤ 2 ^ 20 }
+    requires few { rounds ≤ ROUND_BOUND }
 {
     know_laws(net);
     let row = starts[actor as usize].as_slice();
@@ -84,7 +85,7 @@ fn took<F: Firing>(net: &F, starts: &[Rows<u64>], actor: u32, rounds: u64) -> u6
 /// Whether the last firings of so many rounds took two actors unlike times. Cost: linear in the actors at most.
 pub(crate) fn take_unlike<F: Firing>(net: &F, starts: &[Rows<u64>], rounds: u64) -> bool
     requires rows { length starts.now ≡ length (F.net net.now).times }
-    requires few { rounds ≤ 2 ^ 20 }
+    requires few { rounds ≤ ROUND_BOUND }
 {
     know_laws(net);
     let first = took(net, starts, 0, rounds);
@@ -109,10 +110,10 @@ pub(crate) fn loop_by_rows<F: Firing>(
     requires connected { IsConnected (F.net net.now) }
     requires inputs { HasInputs (F.net net.now) }
     requires order { pair.earlier < pair.later }
-    requires soon { pair.later ≤ 2 ^ 62 }
+    requires soon { pair.later ≤ MOMENT_BOUND }
     requires starts { AreStarts (F.net net.now) pair.later starts.now }
     requires some { 1 ≤ rounds }
-    requires few { rounds ≤ 2 ^ 20 }
+    requires few { rounds ≤ ROUND_BOUND }
     ensures { IfOk result (λ o. IfSome o (IsLoopIn (F.net net.now) starts.now)) }
 {
     if let Some(entry) = entry_by_rows(net, starts, pair, rounds) {

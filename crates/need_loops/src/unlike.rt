@@ -1,6 +1,7 @@
 //! Which numbers of rounds make no loop, by rows of starts.
-ghost use Rattle.std.specs.Prelude.{◌≡◌, ◌≢◌, ℕ, ◌+◌, ◌-◌, ◌^◌, ◌≤◌, ◌<◌, IfSome, IsTrue, length, slice_index};
+ghost use Rattle.std.specs.Prelude.{◌≡◌, ◌≢◌, ℕ, ◌+◌, ◌-◌, ◌≤◌, ◌<◌, IfSome, IsTrue, length, slice_index};
 ghost use Rattle.need_loops.specs.inside.Showing.{Differ, IsApart};
+ghost use Rattle.sd_base.specs.Ranges.{ROUND_BOUND};
 
 use firing::{Firing, know_laws};
 use loops::is_after;
@@ -15,7 +16,7 @@ pub(crate) fn fewer_differ<F: Firing>(
     rounds: u64,
 ) -> bool
     requires rows { length starts.now ≡ length (F.net net.now).times }
-    requires few { rounds ≤ 2 ^ 20 }
+    requires few { rounds ≤ ROUND_BOUND }
     ensures { IsTrue result → (k : ℕ) → 1 ≤ k → k < rounds → Differ (F.net net.now) starts.now after k }
 {
     for fewer in 1..rounds {
@@ -29,7 +30,7 @@ pub(crate) fn fewer_differ<F: Firing>(
 /// Whether two firings start unlike times after those so many rounds before them, all after a moment.
 fn differ<F: Firing>(net: &F, starts: &[Rows<u64>], after: u64, rounds: u64) -> bool
     requires rows { length starts.now ≡ length (F.net net.now).times }
-    requires few { rounds ≤ 2 ^ 20 }
+    requires few { rounds ≤ ROUND_BOUND }
     ensures { IsTrue result → Differ (F.net net.now) starts.now after rounds }
 {
     know_laws(net);
@@ -49,7 +50,7 @@ fn differ<F: Firing>(net: &F, starts: &[Rows<u64>], after: u64, rounds: u64) -> 
 /// How long after the one so many rounds before it the last firing of actor 0 starts, if both start after a moment.
 fn last_apart<F: Firing>(net: &F, starts: &[Rows<u64>], after: u64, rounds: u64) -> Option<u64>
     requires rows { length starts.now ≡ length (F.net net.now).times }
-    requires few { rounds ≤ 2 ^ 20 }
+    requires few { rounds ≤ ROUND_BOUND }
     ensures { IfSome result (IsApart (F.net net.now) starts.now after rounds) }
 {
     know_laws(net);

@@ -2,8 +2,8 @@ ghost use Rattle.periodic.specs.LoopSchedules.{LoopHolds, OneLoopSchedule};
 ghost use Rattle.periodic.specs.Periods.{RoundsBelow};
 ghost use Rattle.periodic.specs.ScheduleLines.{LinesDecide};
 
-/// A periodic schedule that holds on a net whose actors all have an input shows that self-timed execution
-/// completes no fewer than its rounds in each of its periods, up to a constant. It does nothing.
+/// Where each actor has an input, a periodic schedule that holds bounds self-timed execution from below: up to a constant,
+/// no fewer rounds end in each of its periods than it says. It does nothing.
 pub fn schedules_bound_the_rate()
     ensures { RoundsBelow }
 {}

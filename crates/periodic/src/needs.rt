@@ -1,4 +1,5 @@
 ghost use Rattle.std.specs.Prelude.{◌≡◌, ◌+◌, ◌-◌, ◌*◌, ◌≤◌, ◌<◌, ◌^◌, length, slice_index};
+ghost use Rattle.sd_base.specs.Ranges.{WIDE_FIRING_BOUND};
 ghost use Rattle.sd_base.specs.declared.limits.TheConstants.{NET_TOKENS};
 ghost use Rattle.sd_base.specs.Net.{channel_at, total};
 ghost use Rattle.sd_base.specs.Schedules.{Needs, LastNeed};
@@ -35,7 +36,7 @@ pub(crate) fn first_needy<F: Firing>(
 /// `Firing::made_before` times the logarithm of the source's phases.
 pub(crate) fn last_need<F: Firing>(net: &F, channel: u32, firing: u128) -> u128
     requires channel { channel < length (F.net net.now).channels }
-    requires few { firing < 2 ^ 96 }
+    requires few { firing < WIDE_FIRING_BOUND }
     requires needs { Needs (channel_at (F.net net.now) channel) firing 0 }
     ensures { LastNeed (channel_at (F.net net.now) channel) firing result }
 {

@@ -1,4 +1,5 @@
 ghost use Rattle.std.specs.Prelude.{◌≡◌, ◌↔◌, ◌+◌, ◌*◌, ◌/◌, ◌≤◌, ◌<◌, ◌^◌, ℕ, IsTrue, [], length, slice_index, slice_index_or};
+ghost use Rattle.sd_base.specs.Ranges.{WIDE_START_BOUND};
 ghost use Rattle.sd_base.specs.declared.limits.TheConstants.{START};
 ghost use Rattle.sd_base.specs.Schedules.{start_of, count_of};
 ghost use Rattle.sd_base.specs.Net.{channel_at};
@@ -197,7 +198,7 @@ fn start(period: u64, row: &[u128], firing: u128) -> u128
     requires small { (k : ℕ) → slice_index row.now k ≤ START }
     requires near { firing / length row.now ≤ 2 ^ 32 }
     ensures start { result ≡ start_in period row.now firing }
-    ensures small { result ≤ 2 ^ 101 }
+    ensures small { result ≤ WIDE_START_BOUND }
 {
     let turn = row.len() as u128;
     row[(firing % turn) as usize] + firing / turn * period as u128

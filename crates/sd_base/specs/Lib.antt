@@ -12,4 +12,5 @@ pub mod FileNet
 pub mod Scenarios
 pub mod Counter
 pub mod Limits
+pub mod Ranges
 pub mod inside

@@ -21,7 +21,7 @@ pub struct MemoryShelf {
 
 impl MemoryShelf {
     /// A shelf with these files, whose calls are numbered from 1; the numbers in `failing` are those of
-    /// the calls that fail with a counted fault. A take of a name that isn't there fails too, and counts none.
+    /// the calls that fail with a counted fault. To take what the shelf doesn't hold fails too, and counts none.
     pub fn new(files: Rows<(Text, Rows<u8>)>, failing: Rows<u64>) -> Result<MemoryShelf, NoMemory>
         requires { NamesDiffer files }
         ensures { IfOk result (λ s. (s.files ≡ files) × (s.failing ≡ failing) × (s.calls ≡ 0) × (s.faults ≡ 0)) }

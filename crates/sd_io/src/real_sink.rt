@@ -13,8 +13,8 @@ enum Stream<O, E> {
     Error(E),
 }
 
-/// Standard output or standard error. It tells nothing of what was written, and counts each error, a
-/// write that takes no byte among them. Over any two writers whose bytes are known, `send` appends those that it answers to the
+/// Standard output or standard error. It tells nothing of what was written, and counts each error; that a
+/// write takes nothing is one. Over any two writers whose bytes are known, `send` appends those that it answers to the
 /// one that the sink was made over. What is left to trust is which stream stands behind a handle.
 #[derive(Drop)]
 pub struct RealSink<O, E> {

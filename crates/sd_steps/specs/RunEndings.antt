@@ -75,7 +75,7 @@ pub record Outside : Type 0 where
   pub out : Sending
   pub err : Sending
 
--- How a run ends whose command came to this. Cut says whether a send to `out` failed.
+-- How a run ends whose command came to this. `cut` is true where a piece for `out` didn't go through.
 pub data Ends (o : Outside) (status : Status) (cut : Bool) (ending : Ending) : Type 0 where
   done : cut ≡ false → (answer : Answer) → ending ≡ Answered answer → HasPut answer.put o.shelf → status ≡ statuses.Done
       → GetsWhole answer.text o.out → GetsNothing o.err → Ends o status cut ending

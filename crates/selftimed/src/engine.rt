@@ -38,7 +38,7 @@ use std::alloc::Global;
 pub enum Stage {
     /// Nothing has started.
     Fresh,
-    /// The starts so far are the earliest schedule up to and with the moment.
+    /// All firings that self-timed execution starts by the moment have started, and no others.
     Running,
     /// More starts were due than the engine may make.
     Spent,

@@ -11,6 +11,7 @@ ghost use Rattle.selftimed.specs.inside.PortRates.{AreRates};
 ghost use Rattle.selftimed.specs.inside.Ports.{ArePorts};
 ghost use Rattle.selftimed.specs.inside.Stands.{IsFresh, Stands, Begins};
 ghost use Rattle.selftimed.specs.Moves.{AreStarters, Overruns};
+ghost use Rattle.sd_base.specs.Ranges.{MOMENT_BOUND};
 
 use crate::actors::ActorState;
 use crate::ends::DueActor;
@@ -125,7 +126,7 @@ impl<F: Firing> Event<'_, F> {
         requires counted { Counted actors.old all.old self.now.most }
         requires lacks { (b : ℕ) → b < length (F.net self.now.net.now).times → touched_in actors.old b ≡ false →
             LacksAt (F.net self.now.net.now) (ended_in actors.old) b (started_in actors.old b) (lacking_in actors.old b) }
-        requires soon { self.now.moment ≤ 2 ^ 62 }
+        requires soon { self.now.moment ≤ MOMENT_BOUND }
         ensures started { IfOk result (λ fits. MatchBool fits (StartedAll (F.net self.now.net.now) self.now.moment actors.old actors.new)
             (CanOverrun (F.net self.now.net.now) (ended_in actors.old) self.now.most)) }
         ensures stand { IfOk result (λ fits. OnTrue fits (Stand (F.net self.now.net.now) actors.new tokens.new)) }

@@ -1,5 +1,6 @@
 ghost use Rattle.std.specs.Prelude.{◌≡◌, ℕ, ◌+◌, ◌-◌, ◌*◌, ◌%◌, ◌^◌, ◌<◌, ◌≤◌, None, length, set, slice_index, IfOk, IfSome, OnOk, MatchOption};
 ghost use Rattle.std.proofs.Props.{props};
+ghost use Rattle.sd_base.specs.Ranges.{MOMENT_BOUND};
 ghost use Rattle.sd_base.specs.Net.{channel_at};
 ghost use Rattle.sd_base.specs.Schedules.{phases_at, time_of};
 ghost use Rattle.firing.specs.declared.sums.Port.TheVariants.{Taken};
@@ -39,7 +40,7 @@ pub(crate) struct Turn<'a, F: Firing> {
     ghost rated: { AreRates (F.net net.now) rates.now },
     ghost owned: { MayOwn (F.net net.now) actor own } by { Prim.hlevel props },
     ghost listed: { IsListedBut (F.net net.now) Taken actor own inputs.now } by { Prim.hlevel props },
-    ghost soon: { moment ≤ 2 ^ 62 },
+    ghost soon: { moment ≤ MOMENT_BOUND },
 }
 
 impl<F: Firing> Turn<'_, F> {

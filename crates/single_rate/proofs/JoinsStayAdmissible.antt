@@ -1,4 +1,4 @@
--- An admissible schedule of the expansion, joined, is one of the net: the firings of all copies of an actor in the order of their starts.
+-- An admissible schedule of the expansion, joined, is one of the net: an actor's firings are those of its copies, sorted by their starts.
 use Rattle.std.proofs.Common.{◌≡◌, ℕ, zero, suc, ◌+◌, ◌-◌, ◌*◌, ◌/◌, ◌%◌, ◌≤◌, ◌<◌, ◌⊎◌, inl, inr, ⊎_elim, Bool, true, false, List, [], length, sum, subst, sym, refl, ap, ◌∙◌, arith, mod-lt, div-add-mod'}
 use Rattle.std.specs.Prelude.{slice_index, slice_index_or, nat_le, count_by}
 use Rattle.std.proofs.lemmas.Bool.{cases_lt, leb-true, le-leb}

@@ -36,7 +36,7 @@ AtMost (None ∷ ds) (None ∷ es) = AtMost ds es
 AtMost (Some a ∷ ds) (Some b ∷ es) = (a ≤ b) × AtMost ds es
 AtMost ds es = ⊥
 
--- the sum over the channels of the capacity times the size of a token
+-- the storage that capacities take: each channel that has one adds the sizes of as many tokens
 abbrev pub storage_of : List Channel → List (Option ℕ) → ℕ
 storage_of [] ds = 0
 storage_of (c ∷ cs) [] = 0

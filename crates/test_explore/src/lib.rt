@@ -1,5 +1,5 @@
-//! Runs the calls of `explore` and of `guide` on small nets, whose values are worked out by hand, and shows that the distributions of a
-//! level are evaluated side by side, also by the top call. It has no calls of its own.
+//! Runs the calls of `explore` and of `guide` on small nets, whose values are worked out by hand, and shows that a level's
+//! distributions run beside each other, also in the top call. It has no calls of its own.
 #![tactic(auto)]
 
 #[cfg(test)]

@@ -1,5 +1,5 @@
 //! Runs `scenario_points` on small files of scenarios, whose points are worked out by a plain program from the definitions or by hand,
-//! and shows that the distributions of a level are evaluated side by side. It has no calls of its own.
+//! and shows that a level's distributions run beside each other. It has no calls of its own.
 #![tactic(auto)]
 
 #[cfg(test)]

@@ -47,7 +47,7 @@ fn is_space(role: Role) -> bool
     }
 }
 
-/// Whether a net can hold capacities: each is that of a channel that isn't a self-loop, and covers its tokens.
+/// Whether a net can hold capacities: only channels between two actors have one, and it is no less than the channel's tokens.
 fn can_hold<F: Firing>(net: &F, capacities: &Distribution) -> bool
     ensures long { result ≡ true → length capacities.now.capacities ≤ length (F.net net.now).channels }
     ensures can { result ≡ true → CanHold (F.net net.now).channels capacities.now.capacities }

@@ -40,7 +40,7 @@ module _ (net : Net) (laws : Lawful net) (first : ℕ → ℕ) (x : List ℕ) wh
       (s (channel_at net i).source k.0 + time_of net (channel_at net i).source k.0, inr (k.0, k.2, k.1, refl))))
       (cases_lt m (channel_at net i).tokens)
 
-  -- the start of firing j of actor a is the greatest stamp of the tokens that it takes
+  -- firing j of actor a starts as soon as the last of its tokens is there
   pub record IsStart (s : Starts) (v : ℕ → ℕ) (a j z : ℕ) : Type 0 where
     pub after : (i m y : ℕ) → i < length net.channels → (channel_at net i).target ≡ a → IsTakenBy (channel_at net i) m j → Stamped s v i m y → y ≤ z
     pub just : (i : ℕ) × (m : ℕ) × (i < length net.channels) × ((channel_at net i).target ≡ a) × IsTakenBy (channel_at net i) m j × Stamped s v i m z

@@ -37,8 +37,8 @@ HasStamp net first x starts i m z =
     ⊎ ((k : ℕ) × IsPutBy (channel_at net i) m k × (k < count_of starts (channel_at net i).source)
     × (z ≡ end_of net starts (channel_at net i).source k))
 
--- the starts of the firings of one round, where x has the stamps of the shared tokens before it: each firing starts at the
--- greatest stamp of the tokens that it takes
+-- the starts of the firings of one round, where x has the stamps of the shared tokens before it: each firing starts as
+-- soon as the last of its tokens is there
 pub record AreRoundStarts (net : Net) (first : ℕ → ℕ) (x : List ℕ) (starts : Schedule) : Type 0 where
   pub actors : length starts ≡ length net.times
   pub whole : (a : ℕ) → a < length net.times → count_of starts a ≡ slice_index net.round a

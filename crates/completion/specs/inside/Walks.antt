@@ -1,7 +1,8 @@
 -- A way of needs that is followed backwards.
-use Rattle.std.specs.Prelude.{◌≡◌, ℕ, ◌+◌, ◌*◌, ◌^◌, ◌≤◌, ◌<◌, List, [], ◌∷◌, length}
+use Rattle.std.specs.Prelude.{◌≡◌, ℕ, ◌+◌, ◌*◌, ◌≤◌, ◌<◌, List, [], ◌∷◌, length}
 use Rattle.critical.specs.declared.cycle.FiringNo.{FiringNo}
 use Rattle.critical.specs.declared.cycle.CycleStep.{CycleStep}
+use Rattle.sd_base.specs.Ranges.{WIDE_MOMENT_BOUND}
 use Rattle.sd_base.specs.declared.limits.TheConstants.{ROUNDS}
 use Rattle.completion.specs.declared.counts.Part.{Part}
 use Rattle.completion.specs.declared.timetable.Start.{Start}
@@ -73,7 +74,7 @@ pub record IsWalkBack (net : Net) (times : Timetable) (walk : Walk) : Type 0 whe
   pub rounds : ℕ
   pub few : rounds ≤ ROUNDS
   pub last : IsLastOf net times rounds walk.last
-  pub soon : walk.last.moment ≤ 2 ^ 105
+  pub soon : walk.last.moment ≤ WIDE_MOMENT_BOUND
   pub here : IsStart net times walk.here
   pub kept : IsStart net times walk.kept
   pub since : walk.kept.moment ≤ walk.last.moment

@@ -22,7 +22,7 @@ pub record IsBest (graph : TimedGraph) (best : Best) : Type 0 where
   pub short : best.rate.den ≤ LONGEST
   pub slow : best.rate.den ≤ best.rate.num * (TIME * ROUND)
 
--- a critical cycle, and the least potentials that fit
+-- the cycle is critical, and no potentials that fit are less anywhere
 pub record ShowsWorst (graph : TimedGraph) (r : Worst) : Type 0 where
   pub critical : IsCritical graph r.rate.num r.rate.den r.cycle
   pub apart : IsApart graph.edges r.cycle

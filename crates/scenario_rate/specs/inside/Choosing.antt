@@ -120,7 +120,7 @@ pub record IsOnWay (es : List Edge) (ts : List ℕ) (steps : List (Option ℕ)) 
   pub here : (ks : List ℕ) × IsWalkAmong es ts node ks root × (length ks ≡ left)
   pub fewest : (ks : List ℕ) → 1 ≤ length ks → IsWalkAmong es ts node ks root → left ≤ length ks
 
--- of the walks of so many edges from a node to the root the one with the least list of nodes
+-- a walk of so many edges from a node to the root, whose nodes come first in order among those of all such walks
 pub record IsLeastWay (es : List Edge) (ts : List ℕ) (root node left : ℕ) (ks : List ℕ) : Type 0 where
   pub walk : IsWalkAmong es ts node ks root
   pub long : length ks ≡ left
