@@ -9,6 +9,7 @@ pub mod Spelling
 pub mod Overlong
 pub mod Spellable
 pub mod Orderly
+pub mod Widths
 pub mod Limits
 pub mod Reads
 pub mod Fields

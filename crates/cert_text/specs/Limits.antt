@@ -15,22 +15,23 @@ use Rattle.cert_text.specs.declared.certificates.PointLine.{PointLine}
 use Rattle.cert_text.specs.declared.certificates.RateCertificate.{RateCertificate}
 use Rattle.cert_text.specs.declared.certificates.StorageCertificate.{StorageCertificate}
 use Rattle.cert_text.specs.declared.certificates.ScenarioCertificate.{ScenarioCertificate}
+use Rattle.cert_text.specs.Widths.{SHORT_MAX, LONG_MAX, SIGNED_MAX}
 use Rattle.cert_text.specs.MemberLines.{cycle_at}
 use Rattle.cert_text.specs.Orderly.{IsOrderly}
 use Rattle.cert_text.specs.Spellable.{IsSpellable}
 
 -- a number of 32 bits: an actor, a channel, a state or a token
 abbrev pub IsShort : ℕ → Type 0
-IsShort n = n ≤ 4294967295
+IsShort n = n ≤ SHORT_MAX
 
 -- a number of 64 bits: any other one
 abbrev pub IsLong : ℕ → Type 0
-IsLong n = n ≤ 18446744073709551615
+IsLong n = n ≤ LONG_MAX
 
 -- a potential: 128 bits with a sign
 abbrev pub IsPotential : ℤ → Type 0
-IsPotential (pos n) = n ≤ 170141183460469231731687303715884105727
-IsPotential (negsuc n) = n ≤ 170141183460469231731687303715884105727
+IsPotential (pos n) = n ≤ SIGNED_MAX
+IsPotential (negsuc n) = n ≤ SIGNED_MAX
 
 -- the numbers of a fraction
 pub record IsRateWithin (rate : ℕ × ℕ) : Type 0 where

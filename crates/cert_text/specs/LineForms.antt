@@ -9,15 +9,16 @@ use Rattle.cert_text.specs.declared.reading.fault.Fault.{Fault}
 use Rattle.cert_text.specs.declared.reading.fault.Fault.TheVariants.{Form}
 use Rattle.cert_text.specs.Reads.{◌>>=◌}
 use Rattle.cert_text.specs.Fields.{behind, number_in, worded_in, limited, ended, entries_of, each_by}
+use Rattle.cert_text.specs.Widths.{SHORT_MAX, LONG_MAX, SIGNED_MAX, SIGNED_MIN}
 use Rattle.cert_text.specs.NumberLines.{overlap_line, version_line}
 use Rattle.cert_text.specs.BufferLines.{buffers_line}
 
 -- limits of 32 and of 64 bits
 abbrev pub limited_short : ℕ → Result ℕ Fault
-limited_short n = limited 4294967295 n
+limited_short n = limited SHORT_MAX n
 
 abbrev pub limited_long : ℕ → Result ℕ Fault
-limited_long n = limited 18446744073709551615 n
+limited_long n = limited LONG_MAX n
 
 -- whether two texts are the same
 abbrev pub same : List ℕ → List ℕ → Bool
@@ -227,14 +228,14 @@ unfoldable pub last_lowered_due : List ℕ → Result ℤ Fault
 last_lowered_due text = do
   n ← number_in text
   z ← ended n.1
-  size ← limited 170141183460469231731687303715884105728 n.0
+  size ← limited SIGNED_MIN n.0
   below_zero size
 
 unfoldable pub last_raised_due : List ℕ → Result ℤ Fault
 last_raised_due text = do
   n ← number_in text
   z ← ended n.1
-  size ← limited 170141183460469231731687303715884105727 n.0
+  size ← limited SIGNED_MAX n.0
   Ok (pos size)
 
 unfoldable pub last_potential_due : List ℕ → Result ℤ Fault

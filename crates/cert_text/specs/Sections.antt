@@ -14,6 +14,7 @@ use Rattle.cert_text.specs.declared.certificates.ScenarioCertificate.{ScenarioCe
 use Rattle.cert_text.specs.declared.reading.fault.Fault.TheVariants.{Form}
 use Rattle.cert_text.specs.Reads.{Reads, ◌>>=◌, in_front, next_by, times_by, handing}
 use Rattle.cert_text.specs.Fields.{is_digit}
+use Rattle.cert_text.specs.Widths.{LONG_MAX}
 use Rattle.cert_text.specs.CycleLines.{cycle_lines}
 use Rattle.cert_text.specs.MemberLines.{blocked_line}
 use Rattle.cert_text.specs.Spelling.{end_line}
@@ -101,7 +102,7 @@ cycles_from lines = do
 -- what a blocked member shows
 unfoldable pub blocked_from : {S : Type 0} → S → List (List ℕ) → Reads (S × MemberShown)
 blocked_from known lines = do
-  counts ← next_by (numbers_due 18446744073709551615) lines
+  counts ← next_by (numbers_due LONG_MAX) lines
   Ok ((known, Blocked counts.0), counts.1)
 
 -- what a member shows by a cycle that is listed, after those that were read

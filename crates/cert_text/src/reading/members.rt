@@ -13,6 +13,7 @@ ghost use Rattle.cert_text.specs.NumberLines.{numbers_line};
 ghost use Rattle.cert_text.specs.Reads.{Gives, GivesKnown, GivesLine, lines_of, next_by};
 ghost use Rattle.cert_text.specs.Sections.{listed_from, member_from, numbered_from};
 ghost use Rattle.cert_text.specs.declared.reading.fault.Fault.TheVariants.{Large};
+ghost use Rattle.cert_text.specs.Widths.{LONG_MAX};
 
 use crate::certificates::{MemberLine, MemberShown};
 use crate::reading::collected::Collected;
@@ -127,7 +128,7 @@ fn used_after(used: usize, all: usize, cycle: u64) -> usize
 /// Reads the firings at which a member is blocked.
 fn counts(alloc: Global, lines: &mut Lines) -> Result<Rows<u64>, Fault>
     ensures text { IfOk result (λ c. (lines.old.rest.now ≡ numbers_line c ++ lines.new.rest.now) × (0 < length c)) }
-    ensures exact { Gives result lines.new.rest.now (next_by (numbers_due 18446744073709551615) (lines_of lines.old.rest.now)) }
+    ensures exact { Gives result lines.new.rest.now (next_by (numbers_due LONG_MAX) (lines_of lines.old.rest.now)) }
 {
     let line = lines.next()?;
     counts_of(alloc, line)

@@ -4,6 +4,7 @@ ghost use Rattle.cert_text.specs.LineForms.{numbers_due, overlap_due, rate_due, 
 ghost use Rattle.cert_text.specs.NumberLines.{cycles_line, limit_line, members_line, numbers_line, overlap_line, points_line, potentials_line, rate_line};
 ghost use Rattle.cert_text.specs.Reads.{Gives, GivesLine, lines_of, next_by};
 ghost use Rattle.cert_text.specs.Spellable.{AreStarts};
+ghost use Rattle.cert_text.specs.Widths.{LONG_MAX};
 ghost use Rattle.sd_base.specs.declared.limits.TheConstants.{START};
 
 use crate::reading::collected::Collected;
@@ -137,7 +138,7 @@ pub(crate) fn starts_of(alloc: Global, mut line: Line) -> Result<Rows<u128>, Fau
 /// The numbers of a line of firings.
 pub(crate) fn counts_of(alloc: Global, mut line: Line) -> Result<Rows<u64>, Fault>
     ensures text { IfOk result (λ counts. (line.entry.rest.now ≡ numbers_line counts) × (0 < length counts)) }
-    ensures exact { GivesLine result (numbers_due 18446744073709551615 line.entry.rest.now) }
+    ensures exact { GivesLine result (numbers_due LONG_MAX line.entry.rest.now) }
 {
     let first = line.digits()?;
     let mut counts = Collected::with_room(alloc, line.spaces() + 1)?;
