@@ -4,11 +4,12 @@ use Rattle.std.proofs.Math.Nat.{mul-le-mul}
 use Rattle.std.specs.Prelude.{slice_get, slice_set}
 use Rattle.std.proofs.lemmas.Bool.{cases_lt, cases_eq}
 use Rattle.std.proofs.lemmas.List.{get_or-set_same, get_or-set_other}
+use Rattle.std.proofs.lemmas.Option.{slice_get_within}
 use Rattle.sd_base.proofs.ByteTestsDecide.{some-none}
 use Rattle.automaton.specs.declared.graph.Edge.{Edge}
 use Rattle.scenario_rate.specs.declared.levels.Cell.{Cell}
 use Rattle.automaton.specs.SoundGraphs.{AreInside}
-use Rattle.scenario_rate.specs.inside.Levels.{cell_at, IsBelow, IsAtLeast, IsBrought, IsRaised, AreSmall}
+use Rattle.scenario_rate.specs.inside.Levels.{cell_at, edge_in, IsBelow, IsAtLeast, IsBrought, IsRaised, AreHonoured, AreSmall}
 
 same-edge : (es : List Edge) (k n : ℕ) (e f : Edge) → k ≡ n → slice_get es k ≡ Some f → slice_get es n ≡ Some e → e ≡ f
 same-edge es k n e f h a b = let c : ◌≡◌ {A = Option Edge} (Some e) (Some f) = sym b ∙ ap (λ (m : ℕ). slice_get es m) (sym h) ∙ a in (cc)
@@ -96,6 +97,25 @@ module _ (es : List Edge) (n l w : ℕ) (d : ℕ → Option Cell) (xs ys : List 
       go (Some c) is (inr (least, same)) = as_it_is same (λ c0 at.
           (let q : c ≡ c0 = (let s : ◌≡◌ {A = Option Cell} (Some c) (Some c0) = sym is ∙ at in (cc)) in
           subst (λ (x : Cell). (c' : Cell) × (cell_at xs e.to ≡ Some c') × (x.score + e.weight * l ≤ c'.score)) q (at-least (cell_at xs e.to) (c.score + e.weight * l) least)))
+
+-- a level honours each edge, so what one brings from a cell that it didn't raise is there
+pub raised-honoured : (es : List Edge) (l w : ℕ) (d d' : ℕ → Option Cell) → IsRaised es (length es) l w d d' → AreHonoured es l w d'
+raised-honoured es l w d d' raised k e c at is none =
+    let s = raised.stayed e.from c is none in
+    let o = raised.over k e s.0 (slice_get_within es k e at) at s.1 in
+    let a : c.score ≡ s.0.score + w = s.2 in
+    let b : s.0.score + e.weight * l ≤ o.0.score = o.2 in
+    (o.0, o.1, (let g : c.score + e.weight * l ≤ o.0.score + w = omega arith in g))
+
+-- an edge that brings nothing is honoured by a row as it is
+pub raised-as_is : (es : List Edge) (n l w : ℕ) (d : ℕ → Option Cell) (xs : List (Option Cell)) (e : Edge) → IsRaised es n l w d (cell_at xs) → slice_get es n ≡ Some e → e.to < length xs
+    → AreHonoured es l w d → edge_in (d e.from) ≡ None → IsRaised es (n + 1) l w d (cell_at xs)
+raised-as_is es n l w d xs e raised at_n inside honoured none = as_it_is es n l w d xs xs e raised at_n inside refl (λ c at.
+    (let t = honoured n e c at_n at (sym (ap edge_in at) ∙ none) in
+    let k = raised.kept e.to t.0 t.1 in
+    let a : c.score + e.weight * l ≤ t.0.score + w = t.2 in
+    let b : t.0.score + w ≤ k.0.score = k.2 in
+    (k.0, k.1, (let g : c.score + e.weight * l ≤ k.0.score = omega arith in g))))
 
 -- scores grow by at most 1024 * 10^14 a level
 pub raised-small : (es : List Edge) (size l w b : ℕ) (d d' : ℕ → Option Cell) → AreInside es size → l ≤ 1024 → w ≤ 102400000000000000

@@ -1,10 +1,10 @@
 //! Levels: row k holds at each node the best score of a walk of at most k edges from a node of the initial state.
 //! The score of such a walk is its weights times the rounds, and the time for each edge that it has fewer than k.
 
-ghost use Rattle.std.specs.Prelude.{◌≡◌, ◌*◌, ◌+◌, ◌≤◌, ◌<◌, IfOk, MatchBool, MatchOption, length, slice_get};
+ghost use Rattle.std.specs.Prelude.{◌≡◌, ◌*◌, ◌+◌, ◌≤◌, ◌<◌, None, IfOk, MatchBool, MatchOption, length, slice_get};
 ghost use Rattle.sd_base.specs.declared.limits.TheConstants.{NODES, ROUND, TIME};
 ghost use Rattle.automaton.specs.SoundGraphs.{IsSound, AreInside, node_count};
-ghost use Rattle.scenario_rate.specs.inside.Levels.{HIGHEST, LONGEST, cell_at, IsBelow, IsAtLeast, IsBrought, IsAged, IsRaised, IsFirst, IsFirstCell, aged_of, AreSmall, AreSettled, edge_in, IsNoHigher, WasRaised};
+ghost use Rattle.scenario_rate.specs.inside.Levels.{HIGHEST, LONGEST, cell_at, IsBelow, IsAtLeast, IsBrought, IsAged, IsRaised, AreHonoured, IsFirst, IsFirstCell, aged_of, AreSmall, AreSettled, edge_in, IsNoHigher, WasRaised};
 
 use automaton::{Edge, TimedGraph};
 use sd_base::{NoMemory, Rows};
@@ -25,9 +25,10 @@ pub(crate) fn first_row(alloc: Global, graph: &TimedGraph) -> Result<Vec<Option<
     ensures first { IfOk result (λ row. IsFirst graph.now (cell_at row.items)) }
     ensures size { IfOk result (λ row. length row.items ≡ node_count graph.now) }
 {
-    let mut row = Vec::new(alloc);
-    for node in 0..graph.states * graph.tokens {
-        row.push(first_cell(graph, node))?;
+    let nodes = graph.states * graph.tokens;
+    let mut row = Vec::with_capacity(alloc, nodes as usize)?;
+    for node in 0..nodes {
+        row.push_reserved(first_cell(graph, node));
     }
     Ok(row)
 }
@@ -47,11 +48,12 @@ fn first_cell(graph: &TimedGraph, node: u32) -> Option<Cell>
     None
 }
 
-/// The row of the next level: what it keeps of the last one, raised over each edge.
+/// The row of the level after `level`, whose row is given: what it keeps of that, raised over each edge.
 pub(crate) fn next_row(
     alloc: Global,
     edges: &[Edge],
     row: &[Option<Cell>],
+    level: usize,
     rounds: u64,
     time: u64,
 ) -> Result<Vec<Option<Cell>>, NoMemory>
@@ -59,21 +61,27 @@ pub(crate) fn next_row(
     requires rounds { rounds ≤ NODES }
     requires time { time ≤ LONGEST }
     requires small { AreSmall HIGHEST (cell_at row.now) }
+    requires honoured { 1 ≤ level → AreHonoured edges.now rounds time (cell_at row.now) }
     ensures raised { IfOk result (λ next. IsRaised edges.now (length edges.now) rounds time (cell_at row.now) (cell_at next.items)) }
     ensures size { IfOk result (λ next. length next.items ≡ length row.now) }
 {
     let mut next = aged(alloc, row, time)?;
     for number in 0..edges.len() {
         let edge = edges[number];
-        raise(
-            &mut next,
-            row[edge.from as usize],
-            number as u32,
-            edge,
-            rounds,
-        );
+        let from = row[edge.from as usize];
+        if brings(from, level) {
+            raise(&mut next, from, number as u32, edge, rounds);
+        }
     }
     Ok(next)
+}
+
+/// Whether an edge from a cell of a level may raise its end. From level 1 on it can't where no edge raised the cell: it
+/// brings what it brought a level before, aged.
+fn brings(from: Option<Cell>, level: usize) -> bool
+    ensures { MatchBool result (Unit {0}) ((1 ≤ level) × (edge_in from ≡ None)) }
+{
+    edge_of(from).is_some() || level == 0
 }
 
 /// A row whose scores are all a time more.
@@ -82,9 +90,9 @@ fn aged(alloc: Global, row: &[Option<Cell>], time: u64) -> Result<Vec<Option<Cel
     ensures aged { IfOk result (λ next. IsAged time (cell_at row.now) (cell_at next.items)) }
     ensures size { IfOk result (λ next. length next.items ≡ length row.now) }
 {
-    let mut next = Vec::new(alloc);
+    let mut next = Vec::with_capacity(alloc, row.len())?;
     for node in 0..row.len() {
-        next.push(aged_cell(row[node], time))?;
+        next.push_reserved(aged_cell(row[node], time));
     }
     Ok(next)
 }

@@ -17,7 +17,7 @@ use crate::answer::Worst;
 use crate::chosen::chosen_cycle;
 use crate::levels::Cell;
 use crate::repeat::{edges_of, first_return};
-use crate::search::{Levels, Outcome, row_at, search};
+use crate::search::{Levels, Outcome, first_rows, row_at, rows_of, search};
 use crate::tight::tight_edges;
 use crate::trace::walk_to;
 use automaton::{Edge, TimedGraph, worst_is_shown};
@@ -40,8 +40,8 @@ enum Turn {
     Gains(Best),
 }
 
-/// The levels of the first search at a rate.
-const FIRST_LEVELS: u32 = 16;
+/// How many levels a search makes before it first looks for a cycle.
+const FIRST_LEVELS: u32 = 4;
 
 /// The worst rate of a timed graph, which is that of each file whose timed graph it is: least of all rounds per time
 /// unit around cycles that the initial state reaches. From the rate of some cycle on, a search by levels (Bellman and
@@ -87,8 +87,8 @@ fn first_cycle(alloc: Global, graph: &TimedGraph) -> Result<Best, NoMemory>
     }
 }
 
-/// Levels that settle at a rate, or a cycle that gains on it. A search of few levels most often finds one of them;
-/// where it doesn't, the next one has twice as many.
+/// Levels that settle at a rate, or a cycle that gains on it. Few levels most often show one of them; where they don't,
+/// the search goes on to twice as many.
 fn search_at(alloc: Global, graph: &TimedGraph, rounds: u64, time: u64) -> Result<Turn, NoMemory>
     requires sound { IsSound graph.now }
     requires rounds { rounds ≤ NODES }
@@ -97,13 +97,15 @@ fn search_at(alloc: Global, graph: &TimedGraph, rounds: u64, time: u64) -> Resul
 {
     let nodes = graph.states * graph.tokens;
     let mut most = FIRST_LEVELS.min(nodes);
+    let mut rows = first_rows(alloc, graph)?;
     'searches: loop {
-        match search(alloc, graph, rounds, time, most)? {
+        match search(alloc, graph, rounds, time, rows, most)? {
             Outcome::Settled(levels) => return Ok(Turn::Settled(levels)),
             Outcome::Raised(levels, node) => {
                 if let Some(best) = better_cycle(alloc, graph, &levels, node)? {
                     return Ok(Turn::Gains(best));
                 }
+                rows = rows_of(levels);
                 most = (2 * most).min(nodes);
             },
         }
@@ -200,9 +202,9 @@ fn potentials(
     requires before { before ≤ HIGHEST }
     ensures { IfOk result (λ list. list.items ≡ map (potential_of before) row.now) }
 {
-    let mut list = Vec::new(alloc);
+    let mut list = Vec::with_capacity(alloc, row.len())?;
     for place in 0..row.len() {
-        list.push(potential(row[place], before))?;
+        list.push_reserved(potential(row[place], before));
     }
     Ok(list)
 }

@@ -4,7 +4,7 @@ ghost use Rattle.std.specs.Prelude.{◌≡◌, ◌*◌, ◌+◌, ◌≤◌, ◌<
 ghost use Rattle.sd_base.specs.declared.limits.TheConstants.{NODES};
 ghost use Rattle.scenario_rate.specs.inside.Levels.{LONGEST};
 ghost use Rattle.automaton.specs.SoundGraphs.{IsSound, node_count};
-ghost use Rattle.scenario_rate.specs.inside.Searches.{IsOutcome};
+ghost use Rattle.scenario_rate.specs.inside.Searches.{AreLevels, IsLastSmall, IsOutcome};
 
 use crate::levels::{Cell, first_row, next_row, raised_node};
 use automaton::TimedGraph;
@@ -29,29 +29,50 @@ pub enum Outcome {
     Raised(Levels, u32),
 }
 
-/// Makes level after level, `most` at most. Cost: linear in the levels that are made, times the edges.
+/// The row of level 0 alone, which is the same at each rate.
+pub(crate) fn first_rows(
+    alloc: Global,
+    graph: &TimedGraph,
+) -> Result<Vec<Rows<Option<Cell>>>, NoMemory>
+    requires { IsSound graph.now }
+    ensures levels { IfOk result (λ rows. (l w : ℕ) → AreLevels graph.now l w rows.items) }
+    ensures one { IfOk result (λ rows. length rows.items ≡ 1) }
+    ensures small { IfOk result (λ rows. IsLastSmall rows.items) }
+{
+    let row = first_row(alloc, graph)?;
+    let mut rows = Vec::new(alloc);
+    rows.push(Rows::from_vec(row))?;
+    Ok(rows)
+}
+
+/// Goes on from the rows of a search, level after level up to `most`. Cost: linear in the levels that are made, times
+/// the edges.
 pub(crate) fn search(
     alloc: Global,
     graph: &TimedGraph,
     rounds: u64,
     time: u64,
+    mut rows: Vec<Rows<Option<Cell>>>,
     most: u32,
 ) -> Result<Outcome, NoMemory>
     requires sound { IsSound graph.now }
-    requires some { 1 ≤ most }
     requires most { most ≤ node_count graph.now }
     requires rounds { rounds ≤ NODES }
     requires time { time ≤ LONGEST }
+    requires levels { AreLevels graph.now rounds time rows.items }
+    requires made { 1 ≤ length rows.items }
+    requires below { length rows.items ≤ most }
+    requires small { IsLastSmall rows.items }
     ensures { IfOk result (IsOutcome graph.now rounds time most) }
 {
     let mut node = 0u32;
-    let mut rows = Vec::new(alloc);
-    rows.push(Rows::from_vec(first_row(alloc, graph)?))?;
-    for level in 0..most as usize {
+    let first = rows.len() - 1;
+    for level in first..most as usize {
         let next = next_row(
             alloc,
             graph.edges.as_slice(),
             row_at(&rows, level),
+            level,
             rounds,
             time,
         )?;
@@ -64,6 +85,18 @@ pub(crate) fn search(
         rows.push(Rows::from_vec(next))?;
     }
     Ok(Outcome::Raised(Levels { rounds, time, rows }, node))
+}
+
+/// The rows of a search, to go on from.
+pub(crate) fn rows_of(levels: Levels) -> Vec<Rows<Option<Cell>>>
+    ensures { result.items ≡ levels.rows.items }
+{
+    let Levels {
+        rounds: _rounds,
+        time: _time,
+        rows,
+    } = levels;
+    rows
 }
 
 /// The row of a level.

@@ -72,6 +72,11 @@ pub record IsRaised (es : List Edge) (n l w : ℕ) (d d' : ℕ → Option Cell) 
       → (e : Edge) × (c : Cell) × (slice_get es k ≡ Some e) × (e.to ≡ v) × (d e.from ≡ Some c) × (c'.score ≡ c.score + e.weight * l)
   pub more : (v : ℕ) (c' c : Cell) (k : ℕ) → d' v ≡ Some c' → c'.edge ≡ Some k → d v ≡ Some c → c.score + w < c'.score
 
+-- what an edge brings from a cell that no edge raised is at its end, once that is worth w more
+abbrev pub AreHonoured : List Edge → ℕ → ℕ → (ℕ → Option Cell) → Type 0
+AreHonoured es l w d = (k : ℕ) (e : Edge) (c : Cell) → slice_get es k ≡ Some e → d e.from ≡ Some c → c.edge ≡ None
+    → (t : Cell) × (d e.to ≡ Some t) × (c.score + e.weight * l ≤ t.score + w)
+
 -- no edge raised a node
 abbrev pub AreSettled : (ℕ → Option Cell) → Type 0
 AreSettled d = (v : ℕ) (c : Cell) → d v ≡ Some c → c.edge ≡ None

@@ -1,5 +1,5 @@
 -- Searches by levels: the rows, the walks that they stand for, and where a walk comes back to a node.
-use Rattle.std.specs.Prelude.{◌≡◌, ◌≢◌, ℕ, ◌+◌, ◌*◌, ◌≤◌, ◌<◌, ℤ, pos, ◌-ℤ◌, List, [], length, slice_get, slice_index_or, Option, Some, None}
+use Rattle.std.specs.Prelude.{◌≡◌, ◌≢◌, ℕ, ◌+◌, ◌-◌, ◌*◌, ◌≤◌, ◌<◌, ℤ, pos, ◌-ℤ◌, List, [], length, slice_get, slice_index_or, Option, Some, None}
 use Rattle.sd_base.specs.declared.limits.TheConstants.{NODES}
 use Rattle.automaton.specs.declared.graph.Edge.{Edge}
 use Rattle.automaton.specs.declared.graph.TimedGraph.{TimedGraph}
@@ -8,7 +8,7 @@ use Rattle.scenario_rate.specs.declared.levels.Cell.{Cell}
 use Rattle.scenario_rate.specs.declared.search.Outcome.{Outcome}
 use Rattle.scenario_rate.specs.declared.search.Outcome.TheVariants.{Settled, Raised}
 use Rattle.automaton.specs.SoundGraphs.{node_count}
-use Rattle.scenario_rate.specs.inside.Levels.{HIGHEST, cell_at, IsFirst, IsRaised, AreSettled, AreSmall}
+use Rattle.scenario_rate.specs.inside.Levels.{HIGHEST, LONGEST, cell_at, IsFirst, IsRaised, AreSettled, AreSmall}
 
 -- a walk of at most k edges from a node of the initial state to v has this score at level k
 abbrev pub IsScored : TimedGraph → ℕ → ℕ → ℕ → List ℕ → ℕ → ℕ → Type 0
@@ -54,12 +54,16 @@ from_of es v (Some k) = from_in (slice_get es k)
 abbrev pub node_after : List Edge → List ℕ → ℕ → ℕ → ℕ
 node_after es ks v i = from_of es v (slice_get ks i)
 
+-- no score of the last row is above what so many levels add at most
+abbrev pub IsLastSmall : List (List (Option Cell)) → Type 0
+IsLastSmall rows = AreSmall ((length rows - 1) * LONGEST) (cell_at (slice_index_or rows (length rows - 1) []))
+
 -- what a search at the rate l/w over so many levels comes to
 abbrev pub IsOutcome : TimedGraph → ℕ → ℕ → ℕ → Outcome → Type 0
 IsOutcome graph l w most (Settled levels) = (levels.rounds ≡ l) × (levels.time ≡ w) × AreLevels graph l w levels.rows.items
     × ((k : ℕ) × (row : List (Option Cell)) × (k ≤ NODES) × IsLast graph l w levels.rows.items k row)
 IsOutcome graph l w most (Raised levels v) = (levels.rounds ≡ l) × (levels.time ≡ w) × AreLevels graph l w levels.rows.items
-    × (length levels.rows.items ≡ most + 1) × (v < node_count graph) × IsRaisedAt levels.rows.items most v
+    × (length levels.rows.items ≡ most + 1) × (v < node_count graph) × IsRaisedAt levels.rows.items most v × IsLastSmall levels.rows.items
 
 -- the cell of a node at a level
 abbrev pub cell_of : List (List (Option Cell)) → ℕ → ℕ → Option Cell
