@@ -46,7 +46,7 @@ const FIRST_LEVELS: u32 = 4;
 /// The worst rate of a timed graph, which is that of each file whose timed graph it is: least of all rounds per time
 /// unit around cycles that the initial state reaches. From the rate of some cycle on, a search by levels (Bellman and
 /// Ford) finds a cycle that gains on it, or potentials. Cost: for each cycle that gains on the one before, at most
-/// nodes times edges, and memory of nodes squared; mostly some sixteen times the edges. What `product` gives by the
+/// nodes times edges, and memory of nodes squared; mostly a few times the edges. What `product` gives by the
 /// matrices of `matrix_of` meets both conditions, by `products_are_searched`.
 pub fn worst(alloc: Global, graph: &TimedGraph) -> Result<Worst, NoMemory>
     requires sound { IsSound graph.now }
