@@ -1,12 +1,12 @@
 //! How the distributions of a level are evaluated.
 ghost use Rattle.std.specs.Prelude.{◌≡◌, ◌+◌, ◌≤◌, [], All, IfOk, OnErr, map, vec_capacity, vec_len};
-ghost use Rattle.sd_base.specs.declared.limits.TheConstants.{LEAST_STATES, STATES};
 ghost use Rattle.sd_base.specs.declared.numbers.Fraction.{Fraction as AFraction};
 ghost use Rattle.fanout.specs.JobRuns.{EachEntered};
 ghost use Rattle.evaluations.specs.Evaluating.{IsEvaluation, IsVisitable, least_loops, most_loops, sum_of};
 ghost use Rattle.evaluations.specs.Starts.{AreStarts};
 ghost use Rattle.explore.specs.inside.Hints.{IsEvaluableFrom};
 ghost use Rattle.explore.specs.inside.Members.{IsBestOf};
+ghost use Rattle.explore.specs.inside.Searches.{IsExploring};
 
 use crate::exploration::Member;
 use crate::hints::led_to;
@@ -28,10 +28,8 @@ pub(crate) fn run_level<R: Threads + Sync, F: Firing + Sync, G: Gate + Sync, L: 
     gate: &G,
     steps: &mut Steps<L>,
 ) -> Result<Vec<Answered>, NoMemory>
-    requires starts { AreStarts (F.net exploring.now.net.now) exploring.now.starts.now }
+    requires exploring { IsExploring (F.net exploring.now.net.now) exploring.now.starts.now exploring.now.limits }
     requires fits { All (IsEvaluableFrom (F.net exploring.now.net.now) exploring.now.limits.states search.now.members.items) level.visits.items }
-    requires some { LEAST_STATES ≤ exploring.now.limits.states }
-    requires few { exploring.now.limits.states ≤ STATES }
     ensures answers { IfOk result (λ v. (best : AFraction) × IsBestOf search.now.front best × All (λ a. IsEvaluation (F.net exploring.now.net.now) exploring.now.limits.states best a.capacities a.answer) v.items) }
     ensures order { IfOk result (λ v. map (λ a. a.capacities) v.items ≡ map (λ f. f.capacities) level.visits.items) }
     ensures entered { IfOk result (λ v. EachEntered (G.entered gate.now level.total) v.items) }

@@ -1,6 +1,5 @@
 //! How the answers of a level become members.
 ghost use Rattle.std.specs.Prelude.{◌≡◌, ◌+◌, ◌≤◌, ◌⊎◌, ◌++◌, ℕ, [], ◌∷◌, All, Option, List, IfErr, IfOk, OnOk, length, map, Contains};
-ghost use Rattle.sd_base.specs.declared.limits.TheConstants.{STORAGE};
 ghost use Rattle.sd_base.specs.declared.limits.Limits.{Limits as SomeLimits};
 ghost use Rattle.sd_base.specs.Net.{Net};
 ghost use Rattle.pareto_front.specs.declared.point.Point.{Point as APoint};
@@ -13,11 +12,11 @@ ghost use Rattle.evaluations.specs.Evaluating.{least_loops, most_loops, sum_of};
 ghost use Rattle.evaluations.specs.Rated.{IsRated};
 ghost use Rattle.explore.specs.declared.exploration.Member.{Member as AMember};
 ghost use Rattle.explore.specs.Explorations.{IsRefusal, capacities_of, cycles_in};
-ghost use Rattle.explore.specs.Reachable.{IsExplorable, IsReachable};
+ghost use Rattle.explore.specs.Reachable.{IsReachable};
 ghost use Rattle.sd_base.specs.declared.numbers.Fraction.{Fraction as AFraction};
 ghost use Rattle.guide.specs.declared.rating.Evaluation.{Evaluation as AnEvaluation};
 ghost use Rattle.explore.specs.inside.Members.{IsBest, evaluated_member, member_of};
-ghost use Rattle.explore.specs.inside.Searches.{AreKnown, IsAnswerOf, IsMemberAdded, IsSearch, answered_of, entry_of, offers_at};
+ghost use Rattle.explore.specs.inside.Searches.{AreKnown, IsAnswerOf, IsExploring, IsMemberAdded, IsSearch, answered_of, entry_of, offers_at};
 
 use crate::error::ExploreError;
 use crate::exploration::Member;
@@ -37,8 +36,7 @@ pub(crate) fn take_in_all<F: Firing>(
     answers: Vec<Answered>,
     search: &mut Search,
 ) -> Result<(), ExploreError>
-    requires net { IsExplorable (F.net exploring.now.net.now) }
-    requires small { exploring.now.limits.total ≤ STORAGE }
+    requires exploring { IsExploring (F.net exploring.now.net.now) exploring.now.starts.now exploring.now.limits }
     requires answers { (best : AFraction) × IsBest (F.net exploring.now.net.now) best total search.old.members.items × All (IsAnswerOf (F.net exploring.now.net.now) exploring.now.limits total best) answers.items }
     requires search { IsSearch (F.net exploring.now.net.now) exploring.now.limits (total + 1) (answered_of answers.items) search.old }
     ensures search { OnOk result (IsSearch (F.net exploring.now.net.now) exploring.now.limits (total + 1) [] search.new) }
@@ -61,8 +59,7 @@ fn take_answer<F: Firing>(
     answered: Answered,
     search: &mut Search,
 ) -> Result<(), ExploreError>
-    requires net { IsExplorable (F.net exploring.now.net.now) }
-    requires small { exploring.now.limits.total ≤ STORAGE }
+    requires exploring { IsExploring (F.net exploring.now.net.now) exploring.now.starts.now exploring.now.limits }
     requires answer { (best : AFraction) × IsBest (F.net exploring.now.net.now) best total search.old.members.items × IsAnswerOf (F.net exploring.now.net.now) exploring.now.limits total best answered }
     requires search { (rest : List (List (Option ℕ))) × IsSearch (F.net exploring.now.net.now) exploring.now.limits (total + 1) (answered.capacities.capacities ∷ rest) search.old }
     ensures search { OnOk result ((rest : List (List (Option ℕ))) → IsSearch (F.net exploring.now.net.now) exploring.now.limits (total + 1) (answered.capacities.capacities ∷ rest) search.old →
@@ -100,8 +97,7 @@ fn take_in<F: Firing>(
     rated: Rated,
     search: &mut Search,
 ) -> Result<(), ExploreError>
-    requires net { IsExplorable (F.net exploring.now.net.now) }
-    requires small { exploring.now.limits.total ≤ STORAGE }
+    requires exploring { IsExploring (F.net exploring.now.net.now) exploring.now.starts.now exploring.now.limits }
     requires rated { (best : AFraction) × IsBest (F.net exploring.now.net.now) best total search.old.members.items × ((e : AnEvaluation) × IsEvaluated (F.net exploring.now.net.now) capacities.capacities exploring.now.limits.states e × IsRated best e rated) }
     requires total { storage_of (F.net exploring.now.net.now).channels capacities.capacities ≡ total }
     requires search { (rest : List (List (Option ℕ))) × IsSearch (F.net exploring.now.net.now) exploring.now.limits (total + 1) (capacities.capacities ∷ rest) search.old }

@@ -4,10 +4,9 @@ ghost use Rattle.storage.specs.Distributions.{storage_of};
 ghost use Rattle.storage.specs.Steps.{IsCorner};
 ghost use Rattle.levels.specs.Frontiers.{channel_step};
 ghost use Rattle.levels.specs.Entrances.{EnterByLevels};
-ghost use Rattle.evaluations.specs.Starts.{AreStarts};
 ghost use Rattle.explore.specs.Explorations.{CountsFew, CountsLive, IsExploration, IsRefusal, capacities_of, cycles_in};
 ghost use Rattle.explore.specs.Reachable.{IsExplorable};
-ghost use Rattle.explore.specs.inside.Searches.{EntersOn, IsEnded, IsSearch, IsStanding, IsTurn};
+ghost use Rattle.explore.specs.inside.Searches.{EntersOn, IsEnded, IsExploring, IsSearch, IsStanding, IsTurn};
 
 use crate::error::ExploreError;
 use crate::exploration::{Exploration, Member};
@@ -120,11 +119,7 @@ fn take_turns<R: Threads + Sync, F: Firing + Sync, G: Gate + Sync, L: Ledger + S
     search: &mut Search,
     steps: &mut Steps<L>,
 ) -> Result<(), ExploreError>
-    requires net { IsExplorable (F.net exploring.now.net.now) }
-    requires starts { AreStarts (F.net exploring.now.net.now) exploring.now.starts.now }
-    requires small { exploring.now.limits.total ≤ STORAGE }
-    requires some_states { LEAST_STATES ≤ exploring.now.limits.states }
-    requires few_states { exploring.now.limits.states ≤ STATES }
+    requires exploring { IsExploring (F.net exploring.now.net.now) exploring.now.starts.now exploring.now.limits }
     requires stands { IsStanding (F.net exploring.now.net.now) exploring.now.limits search.old }
     requires none { cycles_in search.old.members.items ≡ 0 }
     ensures ended { OnOk result (IsEnded (F.net exploring.now.net.now) exploring.now.limits search.new.members.items search.new.front) }
@@ -146,8 +141,7 @@ fn next_level<F: Firing>(
     exploring: &Exploring<F>,
     search: &mut Search,
 ) -> Result<Option<Level<Option<usize>>>, NoMemory>
-    requires net { IsExplorable (F.net exploring.now.net.now) }
-    requires small { exploring.now.limits.total ≤ STORAGE }
+    requires exploring { IsExploring (F.net exploring.now.net.now) exploring.now.starts.now exploring.now.limits }
     requires stands { IsStanding (F.net exploring.now.net.now) exploring.now.limits search.old }
     ensures level { IfOk result (λ found. MatchOption found (IsEnded (F.net exploring.now.net.now) exploring.now.limits search.old.members.items search.old.front)
         (λ level. IsTurn (F.net exploring.now.net.now) exploring.now.limits level search.new)) }
@@ -168,11 +162,7 @@ fn take_turn<R: Threads + Sync, F: Firing + Sync, G: Gate + Sync, L: Ledger + Se
     search: &mut Search,
     steps: &mut Steps<L>,
 ) -> Result<(), ExploreError>
-    requires net { IsExplorable (F.net exploring.now.net.now) }
-    requires starts { AreStarts (F.net exploring.now.net.now) exploring.now.starts.now }
-    requires small { exploring.now.limits.total ≤ STORAGE }
-    requires some_states { LEAST_STATES ≤ exploring.now.limits.states }
-    requires few_states { exploring.now.limits.states ≤ STATES }
+    requires exploring { IsExploring (F.net exploring.now.net.now) exploring.now.starts.now exploring.now.limits }
     requires turn { IsTurn (F.net exploring.now.net.now) exploring.now.limits level search.old }
     ensures stands { OnOk result (IsStanding (F.net exploring.now.net.now) exploring.now.limits search.new) }
     ensures entered { OnOk result (EntersOn (F.net exploring.now.net.now) (G.entered gate.now) search.old.members.items search.new.members.items) }

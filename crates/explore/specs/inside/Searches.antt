@@ -1,6 +1,7 @@
 -- Where an exploration stands: its members, the distributions that are being evaluated, and those that wait.
 use Rattle.std.specs.Prelude.{◌≡◌, ℕ, ◌+◌, ◌≤◌, ◌<◌, ◌↔◌, All, Contains, Option, List, [], ◌∷◌, ◌++◌, length, map, if◌then◌else◌, ◌==◌}
 use Rattle.sd_base.specs.declared.limits.Limits.{Limits}
+use Rattle.sd_base.specs.declared.limits.TheConstants.{LEAST_STATES, STATES, STORAGE}
 use Rattle.sd_base.specs.declared.numbers.Fraction.{Fraction}
 use Rattle.sd_base.specs.Net.{Net}
 use Rattle.lasso.specs.LoopAnswers.{IsFound}
@@ -21,11 +22,21 @@ use Rattle.levels.specs.Entrances.{EnterByLevels}
 use Rattle.evaluations.specs.declared.evaluating.Answered.{Answered}
 use Rattle.evaluations.specs.Evaluating.{IsEvaluation, least_loops, most_loops}
 use Rattle.evaluations.specs.ShownCycles.{shows_cycle}
+use Rattle.evaluations.specs.declared.starts.Starts.{Starts}
+use Rattle.evaluations.specs.Starts.{AreStarts}
 use Rattle.explore.specs.declared.exploration.Member.{Member}
 use Rattle.explore.specs.declared.search.Search.{Search}
 use Rattle.explore.specs.inside.Hints.{IsEvaluableFrom, IsHinted}
-use Rattle.explore.specs.Reachable.{IsReachable}
+use Rattle.explore.specs.Reachable.{IsExplorable, IsReachable}
 use Rattle.explore.specs.Explorations.{IsMember, ShowsChannel, capacities_of}
+
+-- a net that can be explored, with the counts from which its evaluations begin, and limits that aren't too wide
+pub record IsExploring (net : Net) (starts : Starts) (limits : Limits) : Type 0 where
+  pub explorable : IsExplorable net
+  pub counts : AreStarts net starts
+  pub small : limits.total ≤ STORAGE
+  pub some_states : LEAST_STATES ≤ limits.states
+  pub few_states : limits.states ≤ STATES
 
 -- a distribution on the grid and within the limit that can be reached
 pub record IsCandidate (net : Net) (limit : ℕ) (ds : List (Option ℕ)) : Type 0 where

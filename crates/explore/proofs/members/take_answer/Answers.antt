@@ -27,6 +27,6 @@ returns-in-Err-clause-refused g c =
     let net = g.F.Firing.net c.args.exploring.now.net.now in
     let search = c.requires.search in
     let limits = c.args.exploring.now.limits in
-    c.refusal.ensures net limits (search-candidate net c.requires.net limits (c.args.total + 1) (c.args.answered.capacities.capacities ∷ search.0) c.args.search.now search.1 c.args.answered.capacities.capacities
+    c.refusal.ensures net limits (search-candidate net c.requires.exploring.explorable limits (c.args.total + 1) (c.args.answered.capacities.capacities ∷ search.0) c.args.search.now search.1 c.args.answered.capacities.capacities
     (Contains-append_right (visited (visits_of search.1.entries)) (c.args.answered.capacities.capacities ∷ search.0) c.args.answered.capacities.capacities (contains-here c.args.answered.capacities.capacities search.0))).reachable
     (rw c.in-Err.is at c.requires.answer.2.answer)

@@ -30,7 +30,7 @@ returns-in_err-answers-clause-most g c =
     let s = c.args.search.now in
     let same : c.run_level.new.steps.count ≡ c.args.steps.now.count = ap (λ (t : Tally). t.count) c.in_err-answers.ensures.err in
     rw p.1 (λ before was.
-    counts-few (g.F.Firing.net c.args.exploring.now.net.now) c.requires.net c.args.exploring.now.limits (c.args.level.total + 1) (distributions_of c.args.level.visits.items) c.args.search.now c.requires.turn.search before c.run_level.new.steps.count
+    counts-few (g.F.Firing.net c.args.exploring.now.net.now) c.requires.exploring.explorable c.args.exploring.now.limits (c.args.level.total + 1) (distributions_of c.args.level.visits.items) c.args.search.now c.requires.turn.search before c.run_level.new.steps.count
     (omega (arith, was, same, cycles-few s.members.items)))
 
 pub returns-in_err-take_in_all-clause-most : goal.returns-in_err-take_in_all-clause-most
@@ -42,7 +42,7 @@ returns-in_err-take_in_all-clause-most g c =
     let long = answers-long answers fs c.in_ok-answers.ensures.order in
     let mapped = length-map fs (λ (f : Found (Option ℕ)). f.capacities.capacities) in
     rw p.1 (λ before was.
-    counts-few (g.F.Firing.net c.args.exploring.now.net.now) c.requires.net c.args.exploring.now.limits (c.args.level.total + 1) (distributions_of c.args.level.visits.items) c.args.search.now c.requires.turn.search before c.run_level.new.steps.count
+    counts-few (g.F.Firing.net c.args.exploring.now.net.now) c.requires.exploring.explorable c.args.exploring.now.limits (c.args.level.total + 1) (distributions_of c.args.level.visits.items) c.args.search.now c.requires.turn.search before c.run_level.new.steps.count
     (omega (arith, was, c.in_ok-answers.ensures.most, cycles-few s.members.items, sum-few answers, long, mapped)))
 
 pub returns-clause-stands : goal.returns-clause-stands
@@ -53,7 +53,7 @@ returns-clause-more g c = omega (arith, c.in_ok-take_in_all.ensures.many, c.requ
 
 pub returns-clause-few : goal.returns-clause-few
 returns-clause-few g c =
-    let few = search-few (g.F.Firing.net c.args.exploring.now.net.now) c.requires.net c.args.exploring.now.limits (c.args.level.total + 1) [] c.take_in_all.new.search c.in_ok-take_in_all.ensures.search in
+    let few = search-few (g.F.Firing.net c.args.exploring.now.net.now) c.requires.exploring.explorable c.args.exploring.now.limits (c.args.level.total + 1) [] c.take_in_all.new.search c.in_ok-take_in_all.ensures.search in
     omega (arith, few)
 
 pub returns-clause-entered : goal.returns-clause-entered

@@ -7,7 +7,7 @@ use Rattle.explore.proofs.search.take_turns.Goals as goal
 
 pub returns-in_err-level-clause-most : goal.returns-in_err-level-clause-most
 returns-in_err-level-clause-most g c =
-    counts-few (g.F.Firing.net c.args.exploring.now.net.now) c.requires.net c.args.exploring.now.limits c.loop-level.invariant.0.0 [] c.loop-level.search c.loop-level.invariant.0.1 c.args.steps.now.count c.loop-level.steps.count
+    counts-few (g.F.Firing.net c.args.exploring.now.net.now) c.requires.exploring.explorable c.args.exploring.now.limits c.loop-level.invariant.0.0 [] c.loop-level.search c.loop-level.invariant.0.1 c.args.steps.now.count c.loop-level.steps.count
     (omega (arith, c.loop-level.invariant.1, cycles-few c.loop-level.search.members.items))
 
 pub returns-in_err-take_turn-clause-most : goal.returns-in_err-take_turn-clause-most
@@ -17,7 +17,7 @@ returns-in_err-take_turn-clause-most g c =
 
 pub returns-clause-most : goal.returns-clause-most
 returns-clause-most g c =
-    counts-few (g.F.Firing.net c.args.exploring.now.net.now) c.requires.net c.args.exploring.now.limits c.loop-level.invariant.0.0 [] c.loop-level.search c.loop-level.invariant.0.1 c.args.steps.now.count c.loop-level.steps.count
+    counts-few (g.F.Firing.net c.args.exploring.now.net.now) c.requires.exploring.explorable c.args.exploring.now.limits c.loop-level.invariant.0.0 [] c.loop-level.search c.loop-level.invariant.0.1 c.args.steps.now.count c.loop-level.steps.count
     (omega (arith, c.loop-level.invariant.1, cycles-few c.loop-level.search.members.items))
 
 pub loop-level-preserved : goal.loop-level-preserved
