@@ -1,6 +1,7 @@
 -- From what was put and sent to what the run shows.
-use Rattle.std.proofs.Common.{◌≡◌, ℕ, ◌+◌, List, Bool, Option, Result, Ok, Err, refl, sym, subst, inl, inr}
+use Rattle.std.proofs.Common.{◌≡◌, ℕ, ◌+◌, List, Bool, Result, Ok, Err, refl, sym, subst, inl, inr}
 use Rattle.report.specs.RefusalLines.{line_of, memory_line}
+use Rattle.sd_io.specs.Outside.{Files}
 use Rattle.sd_steps.specs.declared.answer.Answer.{Answer}
 use Rattle.sd_steps.specs.declared.status.Status.{Status}
 use Rattle.sd_steps.specs.declared.status.Status.TheVariants as statuses
@@ -8,27 +9,22 @@ use Rattle.sd_steps.specs.declared.stop.Stop.{Stop}
 use Rattle.sd_steps.specs.declared.stop.Stop.TheVariants as stop
 use Rattle.sd_steps.specs.Statuses.{status_of}
 use Rattle.sd_steps.specs.Courses.{Ending, Answered, Counted}
-use Rattle.sd_steps.specs.Takings.{Files}
 use Rattle.sd_steps.specs.RunEndings.{Sending, GetsNothing, HasTaken, of_refusal, of_memory, Outside, Ends}
 use Rattle.sd_steps.specs.Deliveries.{Sends, SendsStop}
 use Rattle.sd_steps.proofs.SentDecidesEnding.{ends_told}
 use Rattle.sd_command.specs.Requests.{course_of}
 use Rattle.sd_command.specs.Runs.{Run, Shows}
 use Rattle.sd_command.specs.inside.Goings.{IsEnd, Goes}
-use Rattle.sd_command.proofs.command_lemmas.CommandsFollowSteps.{same_shelf}
 
 -- a shelf in the middle of a run, where nothing was put yet
-module _ (words : List (List ℕ)) (files middle : Files) (faults faults' faults'' : ℕ) (named_after : List ℕ → Option (List ℕ)) (out err : Sending) (status : Status)
-    (tells : middle.tells ≡ files.tells) (named : (name : List ℕ) → middle.named name ≡ files.named name) (n executions executions' : ℕ) (counted : executions' ≡ executions + n) where
+module _ (words : List (List ℕ)) (files middle after : Files) (faults faults' faults'' : ℕ) (out err : Sending) (status : Status) (stays : middle ≡ files)
+    (n executions executions' : ℕ) (counted : executions' ≡ executions + n) where
   abbrev outside : Files → ℕ → Outside
   outside from count = record {
-    shelf = record { files = from; named_after = named_after; faults = count; faults_after = faults'' };
+    shelf = record { files = from; files_after = after; faults = count; faults_after = faults'' };
     out = out;
     err = err;
   }
-
-  same_files : middle ≡ files
-  same_files = same_shelf files middle tells named
 
   abbrev run : Run
   run = record { words = words; status = status; outside = outside files faults; executions = executions; executions_after = executions' }
@@ -41,16 +37,16 @@ module _ (words : List (List ℕ)) (files middle : Files) (faults faults' faults
   shows_answer answer goes ends =
       let same : faults' ≡ faults = subst (λ (e : Ending). Counted e faults faults') goes.is goes.counted in
       let there : (cut : Bool) × Ends (outside files faults) status cut (Answered answer) =
-      subst (λ (f : Files). (cut : Bool) × Ends (outside f faults) status cut (Answered answer)) same_files
+      subst (λ (f : Files). (cut : Bool) × Ends (outside f faults) status cut (Answered answer)) stays
       (subst (λ (k : ℕ). (cut : Bool) × Ends (outside middle k) status cut (Answered answer)) same ends) in
       shows (Ok answer) goes (subst (λ (e : Ending). (cut : Bool) × Ends (outside files faults) status cut e) (sym goes.is) there)
 
 -- the line of a stop was sent; nothing was put
-module _ (words : List (List ℕ)) (files : Files) (faults faults' : ℕ) (named_after : List ℕ → Option (List ℕ)) (out err : Sending) (status : Status)
-    (stay : (name : List ℕ) → named_after name ≡ files.named name) (n executions executions' : ℕ) (counted : executions' ≡ executions + n) (nothing : GetsNothing out) where
+module _ (words : List (List ℕ)) (files after : Files) (faults faults' : ℕ) (out err : Sending) (status : Status) (stay : after ≡ files)
+    (n executions executions' : ℕ) (counted : executions' ≡ executions + n) (nothing : GetsNothing out) where
   abbrev stopped : Outside
   stopped = record {
-    shelf = record { files = files; named_after = named_after; faults = faults; faults_after = faults' };
+    shelf = record { files = files; files_after = after; faults = faults; faults_after = faults' };
     out = out;
     err = err;
   }

@@ -17,12 +17,12 @@ use Rattle.scenario_storage.specs.declared.point.ScenarioLimits.{ScenarioLimits}
 use Rattle.scenario_storage.specs.declared.point.ScenarioPoint.{ScenarioPoint}
 use Rattle.scenario_storage.specs.Entrances.{AreEntered}
 use Rattle.scenario_storage.specs.ScenarioPoints.{AreScenarioPoints}
+use Rattle.sd_io.specs.Outside.{Files}
 use Rattle.sd_steps.specs.Askings.{asking}
 use Rattle.sd_steps.specs.Balancings.{balancing}
 use Rattle.sd_steps.specs.Courses.{Step}
 use Rattle.sd_steps.specs.Readings.{opening_graph}
 use Rattle.sd_steps.specs.ScenarioSteps.{opening_scenarios}
-use Rattle.sd_steps.specs.Takings.{Files}
 use Rattle.sd_command.specs.declared.commands.wanted.WantedPoints.{WantedPoints}
 use Rattle.sd_command.specs.commands.Generations.{usual_limits}
 

@@ -2,8 +2,8 @@
 use Rattle.std.specs.Prelude.{ℕ, List, None}
 use Rattle.sd_words.specs.declared.request.Request.{Request}
 use Rattle.sd_words.specs.declared.request.Request.TheVariants as requests
+use Rattle.sd_io.specs.Outside.{Files}
 use Rattle.sd_steps.specs.Courses.{Ending, After}
-use Rattle.sd_steps.specs.Takings.{Files}
 use Rattle.sd_command.specs.commands.Repetitions.{repetition}
 use Rattle.sd_command.specs.commands.Throughputs.{throughput}
 use Rattle.sd_command.specs.commands.InOrders.{ordered}

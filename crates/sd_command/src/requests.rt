@@ -1,6 +1,5 @@
 ghost use Rattle.std.specs.Prelude.{◌≡◌, ◌-◌, ◌≤◌, IfOk};
 ghost use Rattle.sd_words.specs.Asked.{IsWithinLimits};
-ghost use Rattle.sd_steps.specs.Takings.{Files};
 ghost use Rattle.sd_command.specs.Entrances.{command_entered, course_entered};
 ghost use Rattle.sd_command.specs.Requests.{command_of, course_of};
 ghost use Rattle.sd_command.specs.inside.Goings.{AnswersFrom};
@@ -30,11 +29,8 @@ pub(crate) fn answer_of<R: Threads + Sync, S: Shelf, G: Gate + Sync, L: Ledger +
     gate: &G,
     steps: &mut Steps<L>,
 ) -> Result<Answer, Stop>
-    ensures answers { let before : Files = record { tells = S.tells shelf.old; named = S.file shelf.old } in
-        let after : Files = record { tells = S.tells shelf.new; named = S.file shelf.new } in
-        AnswersFrom (course_of words.now) before after (S.faults shelf.old) (S.faults shelf.new) result (steps.new.count - steps.old.count) }
-    ensures entered { let before : Files = record { tells = S.tells shelf.old; named = S.file shelf.old } in
-        IfOk result (λ _. course_entered words.now before (G.entered gate.now) (steps.new.count - steps.old.count)) }
+    ensures answers { AnswersFrom (course_of words.now) (S.files shelf.old) (S.files shelf.new) (S.faults shelf.old) (S.faults shelf.new) result (steps.new.count - steps.old.count) }
+    ensures entered { IfOk result (λ _. course_entered words.now (S.files shelf.old) (G.entered gate.now) (steps.new.count - steps.old.count)) }
     ensures rises { steps.old.count ≤ steps.new.count }
     ensures share { steps.new.share ≡ steps.old.share }
 {
@@ -52,11 +48,8 @@ fn command_answer<R: Threads + Sync, S: Shelf, G: Gate + Sync, L: Ledger + Send>
     steps: &mut Steps<L>,
 ) -> Result<Answer, Stop>
     requires { IsWithinLimits request }
-    ensures answers { let before : Files = record { tells = S.tells shelf.old; named = S.file shelf.old } in
-        let after : Files = record { tells = S.tells shelf.new; named = S.file shelf.new } in
-        AnswersFrom (command_of request) before after (S.faults shelf.old) (S.faults shelf.new) result (steps.new.count - steps.old.count) }
-    ensures entered { let before : Files = record { tells = S.tells shelf.old; named = S.file shelf.old } in
-        IfOk result (λ _. command_entered request before (G.entered parallel.now.gate.now) (steps.new.count - steps.old.count)) }
+    ensures answers { AnswersFrom (command_of request) (S.files shelf.old) (S.files shelf.new) (S.faults shelf.old) (S.faults shelf.new) result (steps.new.count - steps.old.count) }
+    ensures entered { IfOk result (λ _. command_entered request (S.files shelf.old) (G.entered parallel.now.gate.now) (steps.new.count - steps.old.count)) }
     ensures rises { steps.old.count ≤ steps.new.count }
     ensures share { steps.new.share ≡ steps.old.share }
 {

@@ -1,6 +1,5 @@
 ghost use Rattle.std.specs.Prelude.{◌≡◌, ◌-◌, ◌≤◌, Bool};
 ghost use Rattle.sd_steps.specs.RunEndings.{Outside};
-ghost use Rattle.sd_steps.specs.Takings.{Files};
 ghost use Rattle.sd_command.specs.Entrances.{course_entered};
 ghost use Rattle.sd_command.specs.Runs.{Run, Shows, ShowsBy};
 
@@ -30,20 +29,14 @@ pub fn analyse<R: Threads + Sync, S: Shelf, K: Sink, G: Gate + Sync, L: Ledger +
       words = words.now;
       status = result;
       outside = record {
-        shelf = record {
-          files = record { tells = S.tells shelf.old; named = S.file shelf.old };
-          named_after = S.file shelf.new;
-          faults = S.faults shelf.old;
-          faults_after = S.faults shelf.new;
-        };
+        shelf = record { files = S.files shelf.old; files_after = S.files shelf.new; faults = S.faults shelf.old; faults_after = S.faults shelf.new };
         out = record { sent = K.sent out.old; sent_after = K.sent out.new; faults = K.faults out.old; faults_after = K.faults out.new };
         err = record { sent = K.sent err.old; sent_after = K.sent err.new; faults = K.faults err.old; faults_after = K.faults err.new };
       };
       executions = steps.old.count;
       executions_after = steps.new.count;
     } in (cut : Bool) × Shows run cut }
-    ensures entered { let files : Files = record { tells = S.tells shelf.old; named = S.file shelf.old } in
-        result ≡ Status.Done → course_entered words.now files (G.entered gate.now) (steps.new.count - steps.old.count) }
+    ensures entered { result ≡ Status.Done → course_entered words.now (S.files shelf.old) (G.entered gate.now) (steps.new.count - steps.old.count) }
     ensures shelf_grows { S.faults shelf.old ≤ S.faults shelf.new }
     ensures out_grows { K.faults out.old ≤ K.faults out.new }
     ensures err_grows { K.faults err.old ≤ K.faults err.new }
@@ -67,17 +60,11 @@ pub fn exit_code<R: Threads + Sync, S: Shelf, K: Sink, G: Gate + Sync, L: Ledger
     steps: &mut Steps<L>,
 ) -> u8
     ensures shows { let outside : Outside = record {
-      shelf = record {
-        files = record { tells = S.tells shelf.old; named = S.file shelf.old };
-        named_after = S.file shelf.new;
-        faults = S.faults shelf.old;
-        faults_after = S.faults shelf.new;
-      };
+      shelf = record { files = S.files shelf.old; files_after = S.files shelf.new; faults = S.faults shelf.old; faults_after = S.faults shelf.new };
       out = record { sent = K.sent out.old; sent_after = K.sent out.new; faults = K.faults out.old; faults_after = K.faults out.new };
       err = record { sent = K.sent err.old; sent_after = K.sent err.new; faults = K.faults err.old; faults_after = K.faults err.new };
     } in ShowsBy result words.now outside steps.old.count steps.new.count }
-    ensures entered { let files : Files = record { tells = S.tells shelf.old; named = S.file shelf.old } in
-        result ≡ 0 → course_entered words.now files (G.entered gate.now) (steps.new.count - steps.old.count) }
+    ensures entered { result ≡ 0 → course_entered words.now (S.files shelf.old) (G.entered gate.now) (steps.new.count - steps.old.count) }
     ensures shelf_grows { S.faults shelf.old ≤ S.faults shelf.new }
     ensures out_grows { K.faults out.old ≤ K.faults out.new }
     ensures err_grows { K.faults err.old ≤ K.faults err.new }

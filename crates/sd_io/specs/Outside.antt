@@ -1,6 +1,19 @@
--- What a count of faults and a sink's bytes say of a call.
-use Rattle.std.specs.Prelude.{◌≡◌, ℕ, ◌+◌, ◌-◌, ◌^◌, min, List, ◌++◌, take, Option}
+-- What a shelf's files, a count of faults and a sink's bytes say of a call.
+use Rattle.std.specs.Prelude.{◌≡◌, ◌≢◌, ℕ, ◌+◌, ◌-◌, ◌^◌, min, List, ◌++◌, take, Option, None, Some, is_some}
 use Rattle.std.specs.Option.{option_map}
+
+-- what a shelf tells of its files: nothing, or the bytes of the file of each name, where there is one
+abbrev pub Files : Type 0
+Files = Option (List ℕ → Option (List ℕ))
+
+-- the file of a name, where the shelf tells its files and there is one
+abbrev pub file_under : Files → List ℕ → Option (List ℕ)
+file_under None name = None
+file_under (Some files) name = files name
+
+-- after a call a shelf tells its files if it did before, and all but that of a name are the same
+abbrev pub OthersStay : List ℕ → Files → Files → Type 0
+OthersStay name before after = (is_some after ≡ is_some before) × ((other : List ℕ) → other ≢ name → file_under after other ≡ file_under before other)
 
 -- a count after one more; at its end, the greatest number of 64 bits, it stays
 abbrev pub next_count : ℕ → ℕ

@@ -83,9 +83,7 @@ impl MemoryShelf {
 }
 
 impl Shelf for MemoryShelf {
-    ghost tells = { λ _. true };
-
-    ghost file = { λ s n. file_named n s.files };
+    ghost files = { λ s. Some (λ n. file_named n s.files) };
 
     ghost faults = { λ s. s.faults };
 

@@ -1,4 +1,4 @@
-ghost use Rattle.std.specs.Prelude.{◌≡◌, ◌↔◌, ◌<◌, ◌≤◌, ◌^◌, false, length, IfOk, IsOk, IsTrue, MatchResult, None, OnOk};
+ghost use Rattle.std.specs.Prelude.{◌≡◌, ◌↔◌, ◌<◌, ◌≤◌, ◌^◌, length, IfOk, IsOk, IsTrue, MatchResult, None, OnOk};
 ghost use Rattle.std.specs.IoError.{error_kind};
 ghost use Rattle.sd_io.specs.Outside.{Rose};
 ghost use Rattle.sd_io.specs.RealAnswers.{AnswersRead, AnswersTake, IsCountedTake, IsPutErrorOf, IsWrittenTo};
@@ -99,9 +99,7 @@ impl<'a> RealShelf<'a> {
 }
 
 impl Shelf for RealShelf<'_> {
-    ghost tells = { λ _. false };
-
-    ghost file = { λ _ _. None };
+    ghost files = { λ _. None };
 
     ghost faults = { λ s. s.faults };
 

@@ -1,5 +1,5 @@
-ghost use Rattle.std.specs.Prelude.{◌≡◌, ◌≢◌, ℕ, ◌⊎◌, ◌<◌, ◌≤◌, ◌^◌, Bool, true, List, length, Option, None, Some, Result, Ok, Err, IfOk, OnOk, IsOk, IsErrOf, IsSomeAnd};
-ghost use Rattle.sd_io.specs.Outside.{Rose};
+ghost use Rattle.std.specs.Prelude.{◌≡◌, ℕ, ◌⊎◌, ◌<◌, ◌≤◌, ◌^◌, List, length, None, Some, Result, Ok, Err, IfOk, OnOk, IsOk, IsErrOf, IsSome, IsSomeAnd};
+ghost use Rattle.sd_io.specs.Outside.{Files, file_under, OthersStay, Rose};
 
 use sd_base::Rows;
 use std::alloc::{AllocError, AllocFailed, Global};
@@ -62,41 +62,36 @@ impl From<AllocError> for PutError {
 
 /// Files by name.
 pub trait Shelf {
-    /// Whether it tells its files.
-    ghost tells: { Self → Bool };
-
-    /// The bytes of the file of a name, where the shelf tells its files and there is one.
-    ghost file: { Self → List ℕ → Option (List ℕ) };
+    /// What it tells of its files: nothing, or the bytes of the file of each name.
+    ghost files: { Self → Files };
 
     /// How many faults it counted; a count that stands at its end stays there.
     ghost faults: { Self → ℕ };
 
     /// Reads the file `name` whole, if it has at most `limit` bytes. No other answer than a failure counts a fault.
     fn take(&mut self, alloc: Global, name: &str, limit: usize) -> Result<Rows<u8>, TakeError>
-        ensures ok { IfOk result (λ b. (tells self.old ≡ true → file self.old name.now ≡ Some b) × (length b ≤ limit)) }
+        ensures ok { IfOk result (λ b. (IsSome (files self.old) → file_under (files self.old) name.now ≡ Some b) × (length b ≤ limit)) }
         ensures failed { IsErrOf result TakeError.Failed →
             Rose (faults self.old) (faults self.new)
-            ⊎ ((tells self.old ≡ true) × (file self.old name.now ≡ None) × (faults self.new ≡ faults self.old)) }
-        ensures missing { tells self.old ≡ true → file self.old name.now ≡ None →
+            ⊎ (IsSome (files self.old) × (file_under (files self.old) name.now ≡ None) × (faults self.new ≡ faults self.old)) }
+        ensures missing { IsSome (files self.old) → file_under (files self.old) name.now ≡ None →
             IsErrOf result TakeError.Failed ⊎ IsErrOf result TakeError.NoMemory }
-        ensures too_long { IsErrOf result TakeError.TooLong → tells self.old ≡ true →
-            IsSomeAnd (file self.old name.now) (λ b. limit < length b) }
-        ensures only_too_long { (b : List ℕ) → tells self.old ≡ true → file self.old name.now ≡ Some b → limit < length b →
+        ensures too_long { IsErrOf result TakeError.TooLong → IsSome (files self.old) →
+            IsSomeAnd (file_under (files self.old) name.now) (λ b. limit < length b) }
+        ensures only_too_long { (b : List ℕ) → IsSome (files self.old) → file_under (files self.old) name.now ≡ Some b → limit < length b →
             Rose (faults self.old) (faults self.new) ⊎ (IsErrOf result TakeError.TooLong ⊎ IsErrOf result TakeError.NoMemory) }
-        ensures whole { (b : List ℕ) → tells self.old ≡ true → file self.old name.now ≡ Some b → length b ≤ limit →
+        ensures whole { (b : List ℕ) → IsSome (files self.old) → file_under (files self.old) name.now ≡ Some b → length b ≤ limit →
             Rose (faults self.old) (faults self.new) ⊎ (IsOk result ⊎ IsErrOf result TakeError.NoMemory) }
-        ensures stays { (n : List ℕ) → file self.new n ≡ file self.old n }
-        ensures telling { tells self.new ≡ tells self.old }
+        ensures stays { files self.new ≡ files self.old }
         ensures quiet { IsErrOf result TakeError.Failed ⊎ (faults self.new ≡ faults self.old) }
         ensures grows { faults self.old ≤ faults self.new };
 
     /// Makes `bytes` the file `name`, whether there was one or not. Where it fails, nothing is said of that file.
     fn put(&mut self, alloc: Global, name: &str, bytes: &[u8]) -> Result<(), PutError>
-        ensures ok { OnOk result (tells self.old ≡ true → file self.new name.now ≡ Some bytes.now) }
-        ensures others { (n : List ℕ) → n ≢ name.now → file self.new n ≡ file self.old n }
+        ensures ok { OnOk result (IsSome (files self.old) → file_under (files self.new) name.now ≡ Some bytes.now) }
+        ensures others { OthersStay name.now (files self.old) (files self.new) }
         ensures failed { IsErrOf result PutError.Failed → Rose (faults self.old) (faults self.new) }
-        ensures lack { IsErrOf result PutError.NoMemory → (n : List ℕ) → file self.new n ≡ file self.old n }
-        ensures telling { tells self.new ≡ tells self.old }
+        ensures lack { IsErrOf result PutError.NoMemory → files self.new ≡ files self.old }
         ensures quiet { IsErrOf result PutError.Failed ⊎ (faults self.new ≡ faults self.old) }
         ensures grows { faults self.old ≤ faults self.new };
 

@@ -14,6 +14,7 @@ use Rattle.cert_checker.specs.declared.verdict.Reason.{Reason}
 use Rattle.cert_checker.specs.Certificates.{IsCertificateClaim, IsCertificateFault}
 use Rattle.cert_checker.specs.ScenarioCertificates.{IsScenarioFault, IsWorstClaim}
 use Rattle.cert_maker.specs.ValidTradeOffs.{TradeOffsAreValid}
+use Rattle.sd_io.specs.Outside.{Files, file_under}
 use Rattle.sd_steps.specs.declared.answer.Answer.{Answer}
 use Rattle.sd_steps.specs.declared.file_kind.FileKind.TheVariants as files
 use Rattle.sd_laws.specs.AcceptedCertificates.{Accepts, Asks, PutsAreAccepted}
@@ -28,7 +29,7 @@ use Rattle.sd_steps.specs.Readings.{reading_graph}
 use Rattle.sd_steps.specs.Askings.{asking}
 use Rattle.sd_command.specs.Requests.{command_of, course_of}
 use Rattle.sd_steps.specs.ScenarioSteps.{reading_scenarios, timing}
-use Rattle.sd_steps.specs.Takings.{Files, taking}
+use Rattle.sd_steps.specs.Takings.{taking}
 use Rattle.sd_laws.proofs.CertificatesDecide.{opening_certificate_determines}
 use Rattle.sd_laws.proofs.CommandsDecide.{Determines}
 use Rattle.sd_laws.proofs.OneWorst.{ScenarioLaws, reading_file_determines, timing_determines}
@@ -53,7 +54,7 @@ judged faulty holds valid (Failed refusal) n is = absurd is
 judged faulty holds valid Lacking n is = inl tt
 
 module _ (shelf : Files) (name put : List ℕ) (answer : Answer) (words : List (List ℕ)) (later : Files) (asks : Asks shelf name put answer words later)
-    (bytes : List ℕ) (there : shelf.named name ≡ Some bytes) (fits : length bytes ≤ greatest_of quantities.FileBytes)
+    (bytes : List ℕ) (there : file_under shelf name ≡ Some bytes) (fits : length bytes ≤ greatest_of quantities.FileBytes)
     (c : Certificate) (file : answer.put ≡ Some (record { kind = files.Certificate; name = put; bytes = text_of c })) (short : length (text_of c) ≤ greatest_of quantities.CertificateBytes) (read : IsCertText (text_of c) 2 c)
     (faulty : ℕ → Reason → Type 0) (holds : Claim → Type 0) where
   -- from the verdict on the certificate that was put to the whole course

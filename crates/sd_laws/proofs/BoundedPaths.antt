@@ -1,5 +1,5 @@
 -- What a command on the bounded net of a graph file has passed, and that it decides.
-use Rattle.std.proofs.Common.{◌≡◌, ◌≤◌, ℕ, Bool, true, List, length, ap, subst, sym, ◌∙◌, arith}
+use Rattle.std.proofs.Common.{◌≡◌, ◌≤◌, ℕ, Bool, true, List, length, ap, subst, sym, ◌∙◌, arith, IsSome}
 use Rattle.std.proofs.lemmas.List.{length-map}
 use Rattle.sd_base.specs.declared.tables.GraphFile.{GraphFile}
 use Rattle.sd_base.specs.Lawful.{Lawful}
@@ -12,6 +12,7 @@ use Rattle.storage.specs.BoundedNets.{bound}
 use Rattle.storage.specs.NamedBuffers.{Buffer}
 use Rattle.ordered.specs.declared.orders.Orders.{Orders}
 use Rattle.ordered.specs.OrderedNets.{ordered}
+use Rattle.sd_io.specs.Outside.{Files}
 use Rattle.sd_steps.specs.declared.file_kind.FileKind.TheVariants.{Graph}
 use Rattle.sd_steps.specs.Balancings.{balancing}
 use Rattle.sd_command.specs.commands.BoundedCourses.{OnNet, on_file}
@@ -19,7 +20,7 @@ use Rattle.sd_steps.specs.Bufferings.{GivesCapacities, buffering}
 use Rattle.sd_steps.specs.Courses.{Ending}
 use Rattle.sd_steps.specs.Orderings.{GivesOrders, NamedOrders}
 use Rattle.sd_steps.specs.Readings.{opening_graph}
-use Rattle.sd_steps.specs.Takings.{Files, IsTaken}
+use Rattle.sd_steps.specs.Takings.{IsTaken}
 use Rattle.sd_laws.proofs.CommandsDecide.{Decides, IsPast, after_decides, goes_past}
 use Rattle.sd_laws.proofs.OneOrder.{OrderLaws, lawful-ordered}
 use Rattle.sd_command.proofs.command_lemmas.WordsBoundGraphs.{AreSmall}
@@ -77,7 +78,7 @@ module _ (laws : FileLaws) where
       (lawful-ordered known graph gamma no_overlap distribution.capacities lists gives.whole (laws.keeps is.bytes true graph is.given) (over-on files name buffers graph gamma distribution is) (lawful_on files name buffers no_overlap graph gamma distribution small is))
 
   -- the command decides where its part on the net does
-  pub on_file_decides : (files : Files) → files.tells ≡ true → (name : List ℕ) (buffers : List Buffer) (no_overlap : Bool) (next : OnNet)
+  pub on_file_decides : (files : Files) → IsSome files → (name : List ℕ) (buffers : List Buffer) (no_overlap : Bool) (next : OnNet)
       → ((graph : GraphFile) (gamma : List ℕ) (distribution : Distribution) → IsBoundedFile files name buffers graph gamma distribution → Decides (next graph gamma distribution (bound (net_of graph gamma no_overlap) distribution.capacities)))
       → Decides (on_file name buffers no_overlap next files)
   on_file_decides files tells name buffers no_overlap next rest =

@@ -1,5 +1,5 @@
 -- The words and files decide the steps on certificates, and the verdict.
-use Rattle.std.proofs.Common.{◌≡◌, ℕ, ◌≤◌, ◌<◌, ◌⊎◌, inl, inr, true, List, Result, Ok, Err, refl, sym, ap, ap₂, ◌∙◌, arith}
+use Rattle.std.proofs.Common.{◌≡◌, ℕ, ◌≤◌, ◌<◌, ◌⊎◌, inl, inr, List, Result, Ok, Err, refl, sym, ap, ap₂, ◌∙◌, arith, IsSome}
 use Rattle.std.specs.Prelude.{◌==◌, if◌then◌else◌}
 use Rattle.cert_text.specs.declared.certificates.Certificate.{Certificate}
 use Rattle.cert_text.specs.declared.error.CertError.{CertError}
@@ -10,9 +10,10 @@ use Rattle.cert_checker.specs.declared.verdict.Reason.TheVariants as reasons
 use Rattle.cert_checker.specs.Verdicts.{IsFirst, rank_of}
 use Rattle.report.specs.declared.refusal.Refusal.{Refusal}
 use Rattle.report.specs.declared.refusal.Refusal.TheVariants.{Rejected}
+use Rattle.sd_io.specs.Outside.{Files}
 use Rattle.sd_steps.specs.declared.file_kind.FileKind.{FileKind}
 use Rattle.sd_steps.specs.declared.file_kind.FileKind.TheVariants as kinds
-use Rattle.sd_steps.specs.Takings.{Files, taking}
+use Rattle.sd_steps.specs.Takings.{taking}
 use Rattle.sd_steps.specs.CertificateReadings.{certificate_refusal, opening_certificate, reading_certificate}
 use Rattle.sd_steps.specs.Certifyings.{certifying}
 use Rattle.sd_steps.specs.Judgings.{IsRejected, judging, reason_word}
@@ -39,7 +40,7 @@ reading_certificate_determines bytes = record {
   never = λ r a is read. no_error (reading_of bytes) is.error a is.first read;
 }
 
-pub opening_certificate_determines : (shelf : Files) → shelf.tells ≡ true → (name : List ℕ) → Determines (opening_certificate shelf name)
+pub opening_certificate_determines : (shelf : Files) → IsSome shelf → (name : List ℕ) → Determines (opening_certificate shelf name)
 opening_certificate_determines shelf tells name =
     through_determines (taking shelf kinds.Certificate name) (λ bytes. reading_certificate bytes) (taking_determines shelf tells kinds.Certificate name) (λ bytes taken. reading_certificate_determines bytes)
 

@@ -5,6 +5,7 @@ use Rattle.cert_text.specs.declared.certificates.Certificate.TheVariants as cert
 use Rattle.sd_words.specs.declared.request.Request.TheVariants.{Check, Convert}
 use Rattle.sd_words.specs.Asked.{request_of}
 use Rattle.report.specs.declared.refusal.Refusal.{Refusal}
+use Rattle.sd_io.specs.Outside.{Files}
 use Rattle.sd_steps.specs.declared.file_kind.FileKind.TheVariants as files
 use Rattle.sd_steps.specs.Balancings.{balancing}
 use Rattle.sd_steps.specs.CertificateReadings.{opening_certificate}
@@ -15,7 +16,7 @@ use Rattle.sd_laws.specs.Endings.{CheckIsComplete, ConvertIsComplete}
 use Rattle.sd_steps.specs.Readings.{reading_graph}
 use Rattle.sd_command.specs.Requests.{course_of}
 use Rattle.sd_steps.specs.ScenarioSteps.{reading_scenarios, timing}
-use Rattle.sd_steps.specs.Takings.{Files, taking}
+use Rattle.sd_steps.specs.Takings.{taking}
 use Rattle.sd_laws.proofs.CommandsDecide.{never_ends}
 use Rattle.sd_laws.proofs.RequestsGoOn.{of_request}
 use Rattle.sd_laws.proofs.DecidedRunsEnd.{else_is_done}

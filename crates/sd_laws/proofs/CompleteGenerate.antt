@@ -13,8 +13,8 @@ use Rattle.sd_words.specs.declared.request.Request.TheVariants.{Generate}
 use Rattle.sd_words.specs.Asked.{request_of}
 use Rattle.balance.specs.Repetition.{IsRound}
 use Rattle.report.specs.declared.refusal.Refusal.{Refusal}
+use Rattle.sd_io.specs.Outside.{Files}
 use Rattle.sd_steps.specs.Courses.{Ended}
-use Rattle.sd_steps.specs.Takings.{Files}
 use Rattle.sd_steps.specs.Balancings.{balancing}
 use Rattle.sd_steps.specs.Nets.{testing_incident, completing}
 use Rattle.sd_command.specs.commands.Generations.{usual_limits}

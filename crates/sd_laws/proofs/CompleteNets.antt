@@ -1,5 +1,5 @@
 -- Runs of `complete` and of `expand` are done.
-use Rattle.std.proofs.Common.{◌≡◌, ℕ, Bool, true, List, Option, Ok, sym, subst}
+use Rattle.std.proofs.Common.{◌≡◌, ℕ, Bool, true, List, Option, Ok, sym, subst, IsSome}
 use Rattle.sd_base.specs.declared.tables.GraphFile.{GraphFile}
 use Rattle.sd_base.specs.Net.{Net}
 use Rattle.sd_base.specs.FileNet.{net_of}
@@ -12,6 +12,7 @@ use Rattle.balance.specs.Repetition.{IsRound}
 use Rattle.graph_reader.specs.Laws.{Gives}
 use Rattle.report.specs.declared.refusal.Refusal.{Refusal}
 use Rattle.std.specs.Prelude.{Some}
+use Rattle.sd_io.specs.Outside.{Files, file_under}
 use Rattle.sd_command.specs.declared.commands.wanted.WantedRounds.{WantedRounds}
 use Rattle.sd_steps.specs.Courses.{Ending, Ended, Refused}
 use Rattle.sd_laws.specs.Endings.{CompleteIsComplete, ExpandIsComplete, Repeats}
@@ -19,7 +20,6 @@ use Rattle.sd_command.specs.commands.Expansions.{expanding, expansion_on}
 use Rattle.sd_command.specs.commands.LeastTimes.{time_on}
 use Rattle.sd_steps.specs.Nets.{testing}
 use Rattle.sd_command.specs.Requests.{course_of}
-use Rattle.sd_steps.specs.Takings.{Files}
 use Rattle.sd_laws.proofs.BoundedPaths.{IsOnNet, lawful_on, on_the_net}
 use Rattle.sd_laws.proofs.CommandsDecide.{IsPast, goes_past}
 use Rattle.sd_laws.proofs.DecidedRunsEnd.{else_is_done}
@@ -27,7 +27,7 @@ use Rattle.sd_laws.proofs.OneRate.{unrefused}
 use Rattle.sd_laws.proofs.RequestsGoOn.{of_request}
 use Rattle.sd_laws.proofs.SharedSteps.{FileLaws}
 
-module _ (words : List (List ℕ)) (shelf : Files) (tells : shelf.tells ≡ true) (name : List ℕ) (rounds : ℕ) (buffers : List Buffer) (no_overlap : Bool) (states : ℕ)
+module _ (words : List (List ℕ)) (shelf : Files) (tells : IsSome shelf) (name : List ℕ) (rounds : ℕ) (buffers : List Buffer) (no_overlap : Bool) (states : ℕ)
     (asked : request_of words ≡ Ok (Complete name rounds buffers no_overlap states)) where
   abbrev wanted : WantedRounds
   wanted = record { no_overlap = no_overlap; states = states; rounds = rounds }
@@ -43,7 +43,7 @@ module _ (words : List (List ℕ)) (shelf : Files) (tells : shelf.tells ≡ true
       (goes_past (testing on.graph (bound (net_of on.graph on.gamma no_overlap) on.distribution.capacities)) _ (Ended r) n tt on.came).2
 
   -- nor does anything refuse it after executions, where the net repeats a shape
-  late_refusal : FileLaws → ((bytes gamma : List ℕ) (graph : GraphFile) → shelf.named name ≡ Some bytes → Gives bytes true graph → IsRound graph gamma
+  late_refusal : FileLaws → ((bytes gamma : List ℕ) (graph : GraphFile) → file_under shelf name ≡ Some bytes → Gives bytes true graph → IsRound graph gamma
       → Repeats (bound (net_of graph gamma no_overlap) (capacities_of graph.channels buffers)) states) → (r : Refusal) (n : ℕ) → (n ≡ 0 → ⊥) → course_of words shelf (Refused r) n → ⊥
   late_refusal laws repeats r n late due =
       let on = on_time (Refused r) n late due in

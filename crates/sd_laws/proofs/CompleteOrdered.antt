@@ -1,5 +1,5 @@
 -- Runs of `ordered` are done, and the rate that they show is the greatest that keeps the orders.
-use Rattle.std.proofs.Common.{◌≡◌, ℕ, Bool, true, List, Option, None, Ok, sym, subst}
+use Rattle.std.proofs.Common.{◌≡◌, ℕ, Bool, true, List, Option, None, IsSome, Ok, sym, subst}
 use Rattle.sd_base.specs.declared.tables.GraphFile.{GraphFile}
 use Rattle.sd_base.specs.Net.{Net}
 use Rattle.sd_base.specs.FileNet.{net_of}
@@ -15,6 +15,7 @@ use Rattle.ordered.specs.NamedOrders.{first_fault, lists_of}
 use Rattle.ordered.specs.OrderedNets.{ordered}
 use Rattle.report.specs.declared.refusal.Refusal.{Refusal}
 use Rattle.std.specs.Prelude.{Some}
+use Rattle.sd_io.specs.Outside.{Files, file_under}
 use Rattle.sd_steps.specs.declared.answer.Answer.{Answer}
 use Rattle.sd_command.specs.declared.commands.wanted.WantedRate.{WantedRate}
 use Rattle.sd_steps.specs.Courses.{Answered, Ending, Ended, Refused}
@@ -25,7 +26,6 @@ use Rattle.sd_steps.specs.Nets.{testing}
 use Rattle.sd_steps.specs.Orderings.{NamedOrders, ordering}
 use Rattle.sd_command.specs.commands.Rates.{IsRateAnswer}
 use Rattle.sd_command.specs.Requests.{course_of}
-use Rattle.sd_steps.specs.Takings.{Files}
 use Rattle.sd_laws.proofs.BoundedPaths.{IsOnNet, lawful_on, lawful_ordered_on, on_the_net}
 use Rattle.sd_laws.proofs.CommandsDecide.{IsPast, goes_past}
 use Rattle.sd_laws.proofs.DecidedRunsEnd.{else_is_done}
@@ -36,7 +36,7 @@ use Rattle.sd_laws.proofs.RequestsGoOn.{of_request}
 use Rattle.sd_command.proofs.command_lemmas.WordsBoundGraphs.{AreSmall}
 use Rattle.sd_laws.proofs.SharedSteps.{FileLaws}
 
-module _ (laws : FileLaws) (orders : OrderLaws) (words : List (List ℕ)) (shelf : Files) (tells : shelf.tells ≡ true) (name : List ℕ) (lists : NamedOrders) (buffers : List Buffer) (no_overlap : Bool) (states : ℕ)
+module _ (laws : FileLaws) (orders : OrderLaws) (words : List (List ℕ)) (shelf : Files) (tells : IsSome shelf) (name : List ℕ) (lists : NamedOrders) (buffers : List Buffer) (no_overlap : Bool) (states : ℕ)
     (asked : request_of words ≡ Ok (Ordered name lists buffers no_overlap states)) where
   abbrev wanted : WantedRate
   wanted = record { no_overlap = no_overlap; states = states; certificate = None }
@@ -60,7 +60,7 @@ module _ (laws : FileLaws) (orders : OrderLaws) (words : List (List ℕ)) (shelf
       live.2.1.long
 
   -- nor does anything refuse it after executions, where the net repeats a shape
-  late_refusal : ((bytes gamma : List ℕ) (graph : GraphFile) → shelf.named name ≡ Some bytes → Gives bytes true graph → IsRound graph gamma
+  late_refusal : ((bytes gamma : List ℕ) (graph : GraphFile) → file_under shelf name ≡ Some bytes → Gives bytes true graph → IsRound graph gamma
       → Repeats (net_from gamma graph (capacities_of graph.channels buffers) (lists_of graph.actors lists)) states) → (r : Refusal) (n : ℕ) → (n ≡ 0 → ⊥) → course_of words shelf (Refused r) n → ⊥
   late_refusal repeats r n late due =
       let on = on_orders (Refused r) n late due in
@@ -83,7 +83,7 @@ module _ (laws : FileLaws) (orders : OrderLaws) (words : List (List ℕ)) (shelf
       let lawful = lawful_on laws shelf name buffers no_overlap on.graph on.gamma on.distribution small on.file in
       from_names on.graph on.gamma on.file.bytes (on.file.taken.told tells) on.file.given on.file.round given.1.whole ds given.0.lists on.file.capacities.named given.1.named lawful live.2.1
     where
-      from_names : (graph : GraphFile) (gamma bytes : List ℕ) → shelf.named name ≡ Some bytes → Gives bytes true graph → IsRound graph gamma → first_fault graph.actors gamma lists ≡ None
+      from_names : (graph : GraphFile) (gamma bytes : List ℕ) → file_under shelf name ≡ Some bytes → Gives bytes true graph → IsRound graph gamma → first_fault graph.actors gamma lists ≡ None
           → (ds : List (Option ℕ)) (ls : List (List ℕ)) → ds ≡ capacities_of graph.channels buffers → ls ≡ lists_of graph.actors lists → Lawful (bound (net_of graph gamma no_overlap) ds)
           → IsRateAnswer graph (net_from gamma graph ds ls) ds wanted answer → ShowsRateInOrder shelf name lists buffers no_overlap states answer
       from_names graph gamma bytes there given round whole ds ls is_ds is_ls lawful told =
@@ -108,7 +108,7 @@ module _ (laws : FileLaws) (orders : OrderLaws) (words : List (List ℕ)) (shelf
             text = told_of.text;
           }
 
-  pub ordered_late : ((bytes gamma : List ℕ) (graph : GraphFile) → shelf.named name ≡ Some bytes → Gives bytes true graph → IsRound graph gamma
+  pub ordered_late : ((bytes gamma : List ℕ) (graph : GraphFile) → file_under shelf name ≡ Some bytes → Gives bytes true graph → IsRound graph gamma
       → Repeats (net_from gamma graph (capacities_of graph.channels buffers) (lists_of graph.actors lists)) states) → ((r : Refusal) → course_of words shelf (Refused r) 0 → ⊥)
       → (r : Refusal) (n : ℕ) → course_of words shelf (Refused r) n → ⊥
   ordered_late repeats early r n due = late_refusal repeats r n (λ e. early r (subst (λ (k : ℕ). course_of words shelf (Refused r) k) e due)) due

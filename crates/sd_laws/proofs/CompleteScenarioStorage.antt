@@ -1,5 +1,5 @@
 -- A run of `scenario-storage` whose limits are enough is done.
-use Rattle.std.proofs.Common.{◌≡◌, ℕ, ◌+◌, true, List, Some, Ok, arith}
+use Rattle.std.proofs.Common.{◌≡◌, ℕ, ◌+◌, List, Some, IsSome, Ok, arith}
 use Rattle.sd_base.specs.declared.tables.ScenarioFile.{ScenarioFile}
 use Rattle.sd_words.specs.declared.request.Request.TheVariants.{ScenarioStorage}
 use Rattle.sd_words.specs.Asked.{request_of}
@@ -7,12 +7,12 @@ use Rattle.scenario_reader.specs.ScenarioFiles.{GivesFile}
 use Rattle.bounded_scenarios.specs.Boundings.{looped_tokens}
 use Rattle.scenario_storage.specs.declared.point.ScenarioLimits.{ScenarioLimits}
 use Rattle.report.specs.declared.refusal.Refusal.{Refusal}
+use Rattle.sd_io.specs.Outside.{Files, file_under}
 use Rattle.sd_steps.specs.Courses.{Ended}
 use Rattle.sd_command.specs.Requests.{course_of}
 use Rattle.sd_steps.specs.ScenarioBounds.{bounding_all, fitting_nodes}
 use Rattle.sd_steps.specs.ScenarioSteps.{opening_scenarios}
 use Rattle.sd_command.specs.commands.ScenarioPoints.{IsSearchEnd, edges, distributions_spent}
-use Rattle.sd_steps.specs.Takings.{Files}
 use Rattle.sd_laws.specs.Endings.{ScenarioStorageIsComplete, SearchSuffices}
 use Rattle.sd_laws.proofs.CommandsDecide.{never_ends}
 use Rattle.sd_laws.proofs.DecidedRunsEnd.{else_is_done}
@@ -29,9 +29,9 @@ unspent file limits enough r (distributions_spent is told) =
     let many = is.2 in
     omega (arith, few, many)
 
-module _ (words : List (List ℕ)) (shelf : Files) (tells : shelf.tells ≡ true) (name : List ℕ) (limits : ScenarioLimits) (asked : request_of words ≡ Ok (ScenarioStorage name limits.total limits.distributions)) where
+module _ (words : List (List ℕ)) (shelf : Files) (tells : IsSome shelf) (name : List ℕ) (limits : ScenarioLimits) (asked : request_of words ≡ Ok (ScenarioStorage name limits.total limits.distributions)) where
   -- nothing ends it but what words and files decide
-  unended : ((bytes : List ℕ) (file : ScenarioFile) → shelf.named name ≡ Some bytes → GivesFile bytes file → SearchSuffices file limits)
+  unended : ((bytes : List ℕ) (file : ScenarioFile) → file_under shelf name ≡ Some bytes → GivesFile bytes file → SearchSuffices file limits)
       → (r : Refusal) (n : ℕ) → course_of words shelf (Ended r) n → ⊥
   unended enough r n ended =
       never_ends (opening_scenarios shelf name) _ r n (λ file opened.

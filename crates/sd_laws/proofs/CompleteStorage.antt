@@ -1,5 +1,5 @@
 -- A run of `storage` whose limits are enough is done.
-use Rattle.std.proofs.Common.{◌≡◌, ℕ, Bool, true, List, Option, Some, Ok, ⊎_elim}
+use Rattle.std.proofs.Common.{◌≡◌, ℕ, Bool, true, List, Option, Some, IsSome, Ok, ⊎_elim}
 use Rattle.sd_base.specs.declared.tables.GraphFile.{GraphFile}
 use Rattle.sd_base.specs.declared.limits.Limits.{Limits}
 use Rattle.sd_base.specs.Net.{Net}
@@ -14,8 +14,8 @@ use Rattle.sd_words.specs.Asked.{request_of}
 use Rattle.graph_reader.specs.Laws as files
 use Rattle.balance.specs.Repetition.{IsRound}
 use Rattle.report.specs.declared.refusal.Refusal.{Refusal}
+use Rattle.sd_io.specs.Outside.{Files, file_under}
 use Rattle.sd_steps.specs.Courses.{Ended}
-use Rattle.sd_steps.specs.Takings.{Files}
 use Rattle.sd_steps.specs.Readings.{opening_graph}
 use Rattle.sd_steps.specs.Balancings.{balancing}
 use Rattle.sd_steps.specs.Nets.{testing_incident, completing}
@@ -31,12 +31,12 @@ use Rattle.sd_laws.proofs.OneTradeOff.{unspent}
 use Rattle.sd_laws.proofs.SharedSteps.{FileLaws, lawful_net}
 use Rattle.sd_laws.proofs.DecidedRunsEnd.{else_is_done}
 
-module _ (laws : FileLaws) (words : List (List ℕ)) (shelf : Files) (tells : shelf.tells ≡ true) (name : List ℕ) (limits : Limits) (no_overlap : Bool) (certificate : Option (List ℕ)) (asked : request_of words ≡ Ok (Storage name limits no_overlap certificate)) where
+module _ (laws : FileLaws) (words : List (List ℕ)) (shelf : Files) (tells : IsSome shelf) (name : List ℕ) (limits : Limits) (no_overlap : Bool) (certificate : Option (List ℕ)) (asked : request_of words ≡ Ok (Storage name limits no_overlap certificate)) where
   abbrev wanted : WantedPoints
   wanted = record { limits = limits; no_overlap = no_overlap; certificate = certificate }
 
   -- nothing ends it but what words and files decide
-  unended : ((bytes gamma : List ℕ) (graph : GraphFile) → shelf.named name ≡ Some bytes → files.Gives bytes true graph → IsRound graph gamma → Suffice (net_of graph gamma no_overlap) limits × PointCertificatesFit (net_of graph gamma no_overlap) wanted)
+  unended : ((bytes gamma : List ℕ) (graph : GraphFile) → file_under shelf name ≡ Some bytes → files.Gives bytes true graph → IsRound graph gamma → Suffice (net_of graph gamma no_overlap) limits × PointCertificatesFit (net_of graph gamma no_overlap) wanted)
       → (r : Refusal) (n : ℕ) → course_of words shelf (Ended r) n → ⊥
   unended enough r n ended =
       never_ends (opening_graph shelf name true) _ r n (λ graph opened.

@@ -1,5 +1,5 @@
 -- A run of `throughput` whose net repeats a shape is done.
-use Rattle.std.proofs.Common.{◌≡◌, ℕ, Bool, true, List, Option, Some, None, Ok, sym, subst, arith}
+use Rattle.std.proofs.Common.{◌≡◌, ℕ, Bool, true, List, Option, Some, None, IsSome, Ok, sym, subst, arith}
 use Rattle.sd_base.specs.declared.tables.GraphFile.{GraphFile}
 use Rattle.sd_base.specs.Net.{Net}
 use Rattle.sd_base.specs.FileNet.{net_of}
@@ -11,8 +11,8 @@ use Rattle.sd_words.specs.Asked.{request_of}
 use Rattle.graph_reader.specs.Laws as files
 use Rattle.balance.specs.Repetition.{IsRound}
 use Rattle.report.specs.declared.refusal.Refusal.{Refusal}
+use Rattle.sd_io.specs.Outside.{Files, file_under}
 use Rattle.sd_steps.specs.Courses.{Ending, Refused, Ended}
-use Rattle.sd_steps.specs.Takings.{Files}
 use Rattle.sd_steps.specs.Nets.{testing}
 use Rattle.sd_command.specs.commands.Throughputs.{rate_on}
 use Rattle.sd_command.specs.Requests.{course_of}
@@ -41,7 +41,7 @@ module _ (words : List (List ℕ)) (shelf : Files) (name : List ℕ) (buffers : 
 
   -- the net of the file repeats a shape, and its certificates fit
   abbrev Suffices : Type 0
-  Suffices = (bytes gamma : List ℕ) (graph : GraphFile) → shelf.named name ≡ Some bytes → files.Gives bytes true graph → IsRound graph gamma
+  Suffices = (bytes gamma : List ℕ) (graph : GraphFile) → file_under shelf name ≡ Some bytes → files.Gives bytes true graph → IsRound graph gamma
       → Repeats (net_from gamma graph (capacities_of graph.channels buffers)) states
       × RateCertificatesFit (net_from gamma graph (capacities_of graph.channels buffers)) (capacities_of graph.channels buffers) wanted
 
@@ -50,7 +50,7 @@ module _ (words : List (List ℕ)) (shelf : Files) (name : List ℕ) (buffers : 
       on_the_net shelf name buffers no_overlap (rate_on wanted) ending n past (of_request words shelf (Throughput name buffers no_overlap states certificate) asked ending n past came)
 
   -- nothing ends it but what words and files decide
-  unended : shelf.tells ≡ true → Suffices → (r : Refusal) (n : ℕ) → course_of words shelf (Ended r) n → ⊥
+  unended : IsSome shelf → Suffices → (r : Refusal) (n : ℕ) → course_of words shelf (Ended r) n → ⊥
   unended tells enough r n ended =
       let is = on_rate (Ended r) n tt ended in
       let long = goes_past (testing is.graph (net_from is.gamma is.graph is.distribution.capacities)) _ (Ended r) n tt is.came in
@@ -60,7 +60,7 @@ module _ (words : List (List ℕ)) (shelf : Files) (name : List ℕ) (buffers : 
       short-enough certificate _ r (fit told.schedule told.cycle told.shown) told.long
 
   -- what refuses it after executions is one of these
-  late_refusal : (laws : FileLaws) → shelf.tells ≡ true → Suffices → (r : Refusal) (n : ℕ) → (n ≡ 0 → ⊥) → course_of words shelf (Refused r) n → ⊥
+  late_refusal : (laws : FileLaws) → IsSome shelf → Suffices → (r : Refusal) (n : ℕ) → (n ≡ 0 → ⊥) → course_of words shelf (Refused r) n → ⊥
   late_refusal laws tells enough r n late due =
       let is = on_rate (Refused r) n late due in
       let net : Net = net_from is.gamma is.graph is.distribution.capacities in

@@ -1,5 +1,5 @@
 -- The points that `storage` prints up to the fastest one are all.
-use Rattle.std.proofs.Common.{◌≡◌, ◌≤◌, ℕ, Bool, true, List, Option, map, Ok}
+use Rattle.std.proofs.Common.{◌≡◌, ◌≤◌, ℕ, Bool, true, List, Option, map, Ok, IsSome}
 use Rattle.std.specs.Prelude.{Contains}
 use Rattle.sd_base.specs.declared.limits.Limits.{Limits}
 use Rattle.sd_base.specs.declared.tables.GraphFile.{GraphFile}
@@ -11,12 +11,12 @@ use Rattle.storage.specs.ParetoPoints.{IsFront}
 use Rattle.pareto_front.specs.declared.point.Point.{Point}
 use Rattle.explore.specs.Ceilings.{IsGreatest}
 use Rattle.explore.specs.Explorations.{pair_of}
+use Rattle.sd_io.specs.Outside.{Files}
 use Rattle.sd_steps.specs.declared.answer.Answer.{Answer}
 use Rattle.sd_steps.specs.Balancings.{balancing}
 use Rattle.sd_steps.specs.Courses.{Answered}
 use Rattle.sd_steps.specs.Nets.{completing, testing_incident}
 use Rattle.sd_steps.specs.Readings.{opening_graph}
-use Rattle.sd_steps.specs.Takings.{Files}
 use Rattle.sd_command.specs.declared.commands.wanted.WantedPoints.{WantedPoints}
 use Rattle.sd_command.specs.commands.Points.{IsPointsAnswer}
 use Rattle.sd_command.specs.Requests.{course_of}
@@ -29,7 +29,7 @@ abbrev pub AllToTheGreatest : Type 0
 AllToTheGreatest = (net : Net) (storage limit : ℕ) (points : List Point) (p : Point) → storage ≤ limit → IsFront net storage (map pair_of points) → Contains points p → IsGreatest net p.rate
     → IsFront net limit (map pair_of points)
 
-module _ (all : AllToTheGreatest) (words : List (List ℕ)) (files : Files) (tells : files.tells ≡ true) (name : List ℕ) (limits : Limits) (no_overlap : Bool) (certificate : Option (List ℕ))
+module _ (all : AllToTheGreatest) (words : List (List ℕ)) (files : Files) (tells : IsSome files) (name : List ℕ) (limits : Limits) (no_overlap : Bool) (certificate : Option (List ℕ))
     (asked : request_of words ≡ Ok (Storage name limits no_overlap certificate)) (answer : Answer) (n : ℕ) where
   abbrev wanted : WantedPoints
   wanted = record { limits = limits; no_overlap = no_overlap; certificate = certificate }

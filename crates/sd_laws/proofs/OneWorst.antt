@@ -1,5 +1,5 @@
 -- The words and files decide the command `scenario`.
-use Rattle.std.proofs.Common.{◌≡◌, ℕ, suc, ◌<◌, true, false, List, [], ◌∷◌, length, Option, Some, refl, sym, ap, ap₂, subst, ◌∙◌, arith}
+use Rattle.std.proofs.Common.{◌≡◌, ℕ, suc, ◌<◌, false, List, [], ◌∷◌, length, Option, Some, IsSome, refl, sym, ap, ap₂, subst, ◌∙◌, arith}
 use Rattle.std.specs.Prelude.{slice_get, slice_index_or}
 use Rattle.sd_base.specs.declared.tables.GraphFile.{GraphFile}
 use Rattle.sd_base.specs.declared.tables.ScenarioFile.{ScenarioFile}
@@ -16,12 +16,13 @@ use Rattle.token_matrix.specs.Matrices.{IsMatrix}
 use Rattle.automaton.specs.declared.graph.TimedGraph.{TimedGraph}
 use Rattle.balance.specs.Repetition.{IsRound}
 use Rattle.report.specs.declared.refusal.Refusal.{Refusal}
+use Rattle.sd_io.specs.Outside.{Files}
 use Rattle.sd_steps.specs.Readings.{reading_refusal}
 use Rattle.sd_steps.specs.Balancings.{balancing}
 use Rattle.sd_steps.specs.Nets.{feeding}
 use Rattle.sd_steps.specs.ScenarioSteps.{Entries, IsMade, IsUnmade, stamps, blocked, making_matrix, measuring_graph, measuring_one, AreMeasured, measuring, linking, timing, opening_scenarios, reading_scenarios}
 use Rattle.sd_steps.specs.declared.file_kind.FileKind.TheVariants.{Graph}
-use Rattle.sd_steps.specs.Takings.{Files, taking}
+use Rattle.sd_steps.specs.Takings.{taking}
 use Rattle.sd_command.specs.commands.WorstRates.{telling_worst, worst_of}
 use Rattle.sd_laws.proofs.CommandsDecide.{Determines, Decides, DecidesLast, after_decides, last_decides, through_determines, naming_determines}
 use Rattle.sd_laws.proofs.FirstWithouts.{one_first}
@@ -52,7 +53,7 @@ module _ (facts : FileLaws) (laws : ScenarioLaws) where
     never = λ r f is given. laws.either bytes f is.error is.some given is.first;
   }
 
-  pub opening_file_determines : (shelf : Files) → shelf.tells ≡ true → (name : List ℕ) → Determines (opening_scenarios shelf name)
+  pub opening_file_determines : (shelf : Files) → IsSome shelf → (name : List ℕ) → Determines (opening_scenarios shelf name)
   opening_file_determines shelf tells name =
       through_determines (taking shelf Graph name) (λ bytes. reading_scenarios bytes) (taking_determines shelf tells Graph name) (λ bytes taken. reading_file_determines bytes)
 

@@ -1,5 +1,5 @@
 -- What `expand` puts is read again as the expansion.
-use Rattle.std.proofs.Common.{◌≡◌, ℕ, ◌+◌, ◌^◌, ◌≤◌, ◌<◌, Bool, true, false, List, ◌++◌, length, sum, All, Option, Some, None, Ok, refl, sym, ap, subst, ◌∙◌, arith}
+use Rattle.std.proofs.Common.{◌≡◌, ℕ, ◌+◌, ◌^◌, ◌≤◌, ◌<◌, Bool, true, false, List, ◌++◌, length, sum, All, Option, Some, None, IsSome, Ok, refl, sym, ap, subst, ◌∙◌, arith}
 use Rattle.std.specs.Prelude.{IsTrue, slice_index_or, nat_lt, codes, if◌then◌else◌}
 use Rattle.std.specs.List.{list_any}
 use Rattle.std.specs.Fmt.{decimal}
@@ -43,12 +43,12 @@ use Rattle.single_rate.proofs.ExpansionsKeepRules.{table-keeps, table-timed}
 use Rattle.sd_words.proofs.AskedNumbersFit.{asked_within}
 use Rattle.sd_words.specs.declared.request.Request.TheVariants.{Expand}
 use Rattle.sd_words.specs.Asked.{request_of}
+use Rattle.sd_io.specs.Outside.{Files, file_under}
 use Rattle.sd_steps.specs.declared.answer.Answer.{Answer}
 use Rattle.sd_steps.specs.Courses.{Answered}
 use Rattle.sd_command.specs.commands.Expansions.{IsExpansion, expanding, expansion_on, graph_put}
 use Rattle.sd_laws.specs.PutExpansions.{ExpansionsAreRead, PutsExpansion}
 use Rattle.sd_command.specs.Requests.{course_of}
-use Rattle.sd_steps.specs.Takings.{Files}
 use Rattle.sd_laws.proofs.BoundedPaths.{lawful_on, on_the_net}
 use Rattle.sd_laws.proofs.CommandsDecide.{goes_past}
 use Rattle.sd_laws.proofs.RequestsGoOn.{of_request}
@@ -161,7 +161,7 @@ module _ (net : Net) (laws : Lawful net) (g : GraphFile) (named : length g.actor
 
 -- ---- the answer
 
-module _ (laws : FileLaws) (names : ReadIsWritable) (words : List (List ℕ)) (shelf : Files) (tells : shelf.tells ≡ true) (name output : List ℕ) (buffers : List Buffer) (no_overlap : Bool)
+module _ (laws : FileLaws) (names : ReadIsWritable) (words : List (List ℕ)) (shelf : Files) (tells : IsSome shelf) (name output : List ℕ) (buffers : List Buffer) (no_overlap : Bool)
     (asked : request_of words ≡ Ok (Expand name output buffers no_overlap)) where
   small : AreSmall buffers
   small = asked_within words (Expand name output buffers no_overlap) asked
@@ -182,7 +182,7 @@ module _ (laws : FileLaws) (names : ReadIsWritable) (words : List (List ℕ)) (s
       let keeps : KeepsRules (expansion net graph) = table-keeps net lawful graph named within.0 within.1 (bounded-few_tokens graph gamma no_overlap buffers (laws.keeps bytes true graph given) small) in
       reads_back (expansion net graph) keeps (writable net lawful graph named fits (names bytes true graph given) keeps) true (λ yes. table-timed net lawful graph named)
 
-  from_names : (answer : Answer) (bytes : List ℕ) (graph big : GraphFile) (gamma : List ℕ) (ds : List (Option ℕ)) → shelf.named name ≡ Some bytes → Gives bytes true graph → IsRound graph gamma → ds ≡ capacities_of graph.channels buffers
+  from_names : (answer : Answer) (bytes : List ℕ) (graph big : GraphFile) (gamma : List ℕ) (ds : List (Option ℕ)) → file_under shelf name ≡ Some bytes → Gives bytes true graph → IsRound graph gamma → ds ≡ capacities_of graph.channels buffers
       → Lawful (net_from graph gamma ds) → IsExpansion (net_from graph gamma ds) graph big → answer.put ≡ Some (graph_put output big) → PutsExpansion shelf name output buffers no_overlap answer
   from_names answer bytes graph big gamma ds there given round is lawful of put =
       let net : Net = net_from graph gamma (capacities_of graph.channels buffers) in

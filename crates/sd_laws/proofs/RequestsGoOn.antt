@@ -3,10 +3,10 @@ use Rattle.std.proofs.Common.{◌≡◌, ℕ, List, Result, Ok, sym, subst, ◌�
 use Rattle.sd_words.specs.declared.request.Request.{Request}
 use Rattle.sd_words.specs.declared.request.UsageCause.{UsageCause}
 use Rattle.sd_words.specs.Asked.{request_of}
+use Rattle.sd_io.specs.Outside.{Files}
 use Rattle.sd_steps.specs.Courses.{Ending}
 use Rattle.sd_steps.specs.Askings.{asking}
 use Rattle.sd_command.specs.Requests.{command_of, course_of}
-use Rattle.sd_steps.specs.Takings.{Files}
 use Rattle.sd_laws.proofs.CommandsDecide.{IsPast, goes_past}
 
 one_request : (words : List (List ℕ)) (q r : Request) → request_of words ≡ Ok q → request_of words ≡ Ok r → q ≡ r

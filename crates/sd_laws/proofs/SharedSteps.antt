@@ -1,5 +1,5 @@
 -- The words and files decide the steps that commands share.
-use Rattle.std.proofs.Common.{◌≡◌, ◌≢◌, ℕ, ◌≤◌, ◌<◌, Bool, true, List, length, sum, subst, Option, Some, None, Result, Ok, Err, IsSomeAnd, refl, sym, ap, ◌∙◌, arith}
+use Rattle.std.proofs.Common.{◌≡◌, ◌≢◌, ℕ, ◌≤◌, ◌<◌, Bool, true, List, length, sum, subst, Option, Some, None, IsSome, Result, Ok, Err, IsSomeAnd, refl, sym, ap, ◌∙◌, arith}
 use Rattle.sd_base.specs.declared.tables.GraphFile.{GraphFile}
 use Rattle.sd_base.specs.Tables.{KeepsRules, IsTimed}
 use Rattle.sd_base.specs.Net.{IsRepetitionOf}
@@ -26,6 +26,7 @@ use Rattle.storage.proofs.BoundingKeepsLaws.{bound-lawful}
 use Rattle.storage.proofs.FileChannels.{file-plain, plain-no_spaces}
 use Rattle.storage.proofs.NamedCapacities.{bounded-few, named-held}
 use Rattle.std.proofs.lemmas.List.{length-map}
+use Rattle.sd_io.specs.Outside.{Files, file_under}
 use Rattle.sd_steps.specs.Bufferings.{IsBufferRefusal, unknown, self_loop, below_tokens, GivesCapacities, buffering}
 use Rattle.report.specs.WalkTexts.{steps_text}
 use Rattle.sd_base.specs.Limits.{greatest_of}
@@ -35,7 +36,7 @@ use Rattle.sd_base.proofs.ByteTestsDecide.{one-some, some-none}
 use Rattle.sd_steps.specs.declared.file_kind.FileKind.{FileKind}
 use Rattle.sd_steps.specs.declared.file_kind.FileKind.TheVariants as kinds
 use Rattle.sd_steps.specs.ActorNames.{actor_shown}
-use Rattle.sd_steps.specs.Takings.{Files, IsTaken, IsUntaken, missing, too_long, taking, bytes_of}
+use Rattle.sd_steps.specs.Takings.{IsTaken, IsUntaken, missing, too_long, taking, bytes_of}
 use Rattle.sd_steps.specs.Readings.{opening_graph, reading_graph, reading_refusal}
 use Rattle.sd_steps.specs.Balancings.{IsBalanceRefusal, apart, ratio, inconsistent, above, balancing}
 use Rattle.sd_steps.specs.Askings.{asking, usage_refusal}
@@ -128,27 +129,27 @@ long_is_there : (limit : ℕ) (o : Option (List ℕ)) → IsSomeAnd o (λ b. lim
 long_is_there limit (Some b) h = (b, refl, h)
 long_is_there limit None h = absurd h
 
-module _ (shelf : Files) (tells : shelf.tells ≡ true) (kind : FileKind) (name : List ℕ) where
+module _ (shelf : Files) (tells : IsSome shelf) (kind : FileKind) (name : List ℕ) where
   one_untaken : (r s : Refusal) → IsUntaken shelf kind name r → IsUntaken shelf kind name s → r ≡ s
   one_untaken r s (missing told none p) (missing told' none' q) = p ∙ sym q
   one_untaken r s (too_long long p) (too_long long' q) = p ∙ sym q
   one_untaken r s (missing told none p) (too_long long q) =
-      let at = long_is_there (greatest_of (bytes_of kind)) (shelf.named name) (long tells) in absurd (some-none (shelf.named name) at.0 at.1 none)
+      let at = long_is_there (greatest_of (bytes_of kind)) (file_under shelf name) (long tells) in absurd (some-none (file_under shelf name) at.0 at.1 none)
   one_untaken r s (too_long long p) (missing told none q) =
-      let at = long_is_there (greatest_of (bytes_of kind)) (shelf.named name) (long tells) in absurd (some-none (shelf.named name) at.0 at.1 none)
+      let at = long_is_there (greatest_of (bytes_of kind)) (file_under shelf name) (long tells) in absurd (some-none (file_under shelf name) at.0 at.1 none)
 
   not_taken : (r : Refusal) (bytes : List ℕ) → IsUntaken shelf kind name r → IsTaken shelf kind name bytes → ⊥
-  not_taken r bytes (missing told none p) taken = some-none (shelf.named name) bytes (taken.told tells) none
+  not_taken r bytes (missing told none p) taken = some-none (file_under shelf name) bytes (taken.told tells) none
   not_taken r bytes (too_long long p) taken =
-      let at = long_is_there (greatest_of (bytes_of kind)) (shelf.named name) (long tells) in
-      let s : at.0 ≡ bytes = one-some (shelf.named name) at.0 bytes at.1 (taken.told tells) in
+      let at = long_is_there (greatest_of (bytes_of kind)) (file_under shelf name) (long tells) in
+      let s : at.0 ≡ bytes = one-some (file_under shelf name) at.0 bytes at.1 (taken.told tells) in
       let much : greatest_of (bytes_of kind) < length at.0 = at.2 in
       let fits : length bytes ≤ greatest_of (bytes_of kind) = taken.fits in
       omega (arith, ap (λ (l : List ℕ). length l) s)
 
   pub taking_determines : Determines (taking shelf kind name)
   taking_determines = record {
-    one = λ a b is also. one-some (shelf.named name) a b (is.told tells) (also.told tells);
+    one = λ a b is also. one-some (file_under shelf name) a b (is.told tells) (also.told tells);
     refusal = one_untaken;
     never = not_taken;
   }
@@ -194,7 +195,7 @@ module _ (laws : FileLaws) where
     never = λ r g is given. laws.either bytes times g is.error is.some given is.first;
   }
 
-  pub opening_determines : (shelf : Files) → shelf.tells ≡ true → (name : List ℕ) (times : Bool) → Determines (opening_graph shelf name times)
+  pub opening_determines : (shelf : Files) → IsSome shelf → (name : List ℕ) (times : Bool) → Determines (opening_graph shelf name times)
   opening_determines shelf tells name times =
       through_determines (taking shelf kinds.Graph name) (λ bytes. reading_graph bytes times) (taking_determines shelf tells kinds.Graph name) (λ bytes taken. reading_determines bytes times)
 

@@ -1,5 +1,5 @@
 -- What `throughput` puts is a valid certificate.
-use Rattle.std.proofs.Common.{◌≡◌, ℕ, ◌+◌, ◌*◌, ◌≤◌, Bool, true, Option, None, Some, length, List, [], ◌∷◌, ◌++◌, All, Ok, refl, sym, ap, subst, ◌∙◌, arith}
+use Rattle.std.proofs.Common.{◌≡◌, ℕ, ◌+◌, ◌*◌, ◌≤◌, Bool, Option, None, Some, IsSome, length, List, [], ◌∷◌, ◌++◌, All, Ok, refl, sym, ap, subst, ◌∙◌, arith}
 use Rattle.std.proofs.Math.Nat.{eq_of_mul-eq-mul_left}
 use Rattle.sd_base.specs.declared.limits.TheConstants.{CAPACITY}
 use Rattle.sd_base.specs.declared.tables.ChannelRow.{ChannelRow}
@@ -20,6 +20,7 @@ use Rattle.cert_text.specs.declared.certificates.Certificate.{Certificate}
 use Rattle.cert_text.specs.Reading.{IsCertText}
 use Rattle.cert_maker.specs.ValidCertificates.{AreGiven}
 use Rattle.cert_maker.proofs.ValidRates.{rates-valid}
+use Rattle.sd_io.specs.Outside.{Files}
 use Rattle.sd_steps.specs.declared.answer.Answer.{Answer}
 use Rattle.sd_steps.specs.declared.file_kind.FileKind.TheVariants as kinds
 use Rattle.sd_steps.specs.Certifyings.{text_of}
@@ -28,7 +29,6 @@ use Rattle.sd_steps.specs.Nets.{testing}
 use Rattle.sd_laws.specs.PutCertificates.{PutsValidRate, RatesPutAreValid}
 use Rattle.sd_command.specs.commands.Rates.{IsRateAnswer}
 use Rattle.sd_command.specs.Requests.{course_of}
-use Rattle.sd_steps.specs.Takings.{Files}
 use Rattle.sd_command.specs.commands.Throughputs.{rate_on}
 use Rattle.sd_command.specs.declared.commands.wanted.WantedRate.{WantedRate}
 use Rattle.sd_laws.proofs.BoundedPaths.{lawful_on, on_the_net}
@@ -63,7 +63,7 @@ one-ratio den num h w rounds period some reached bounded =
 
 -- ---- the course of a run
 
-module _ (laws : FileLaws) (words : List (List ℕ)) (files : Files) (tells : files.tells ≡ true) (name put : List ℕ) (buffers : List Buffer) (no_overlap : Bool) (states : ℕ)
+module _ (laws : FileLaws) (words : List (List ℕ)) (files : Files) (tells : IsSome files) (name put : List ℕ) (buffers : List Buffer) (no_overlap : Bool) (states : ℕ)
     (asked : request_of words ≡ Ok (Throughput name buffers no_overlap states (Some put))) (answer : Answer) (n : ℕ) where
   abbrev wanted : WantedRate
   wanted = record { no_overlap = no_overlap; states = states; certificate = Some put }

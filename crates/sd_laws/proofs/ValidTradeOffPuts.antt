@@ -1,5 +1,5 @@
 -- What `storage` puts is a valid certificate.
-use Rattle.std.proofs.Common.{◌≡◌, ◌≤◌, ℕ, Bool, true, List, [], ◌∷◌, Some, length, Ok, ap, subst, ◌∙◌}
+use Rattle.std.proofs.Common.{◌≡◌, ◌≤◌, ℕ, Bool, true, List, [], ◌∷◌, Some, IsSome, length, Ok, ap, subst, ◌∙◌}
 use Rattle.std.specs.List.{AllZip}
 use Rattle.sd_base.specs.declared.limits.Limits.{Limits}
 use Rattle.sd_base.specs.declared.tables.GraphFile.{GraphFile}
@@ -17,6 +17,7 @@ use Rattle.pareto_front.specs.declared.point.Point.{Point}
 use Rattle.cert_text.specs.declared.certificates.Certificate.{Certificate}
 use Rattle.cert_text.specs.Reading.{IsCertText}
 use Rattle.cert_maker.specs.ValidTradeOffs.{IsReachedBy, TradeOffsAreValid}
+use Rattle.sd_io.specs.Outside.{Files}
 use Rattle.sd_steps.specs.declared.answer.Answer.{Answer}
 use Rattle.sd_steps.specs.declared.file_kind.FileKind.TheVariants as kinds
 use Rattle.sd_command.specs.declared.commands.wanted.WantedPoints.{WantedPoints}
@@ -28,7 +29,6 @@ use Rattle.sd_command.specs.commands.Points.{IsPointSchedule, IsPointsAnswer}
 use Rattle.sd_laws.specs.PutCertificates.{PutsValidTradeOff, TradeOffsPutAreValid}
 use Rattle.sd_steps.specs.Readings.{opening_graph}
 use Rattle.sd_command.specs.Requests.{course_of}
-use Rattle.sd_steps.specs.Takings.{Files}
 use Rattle.sd_laws.proofs.CommandsDecide.{goes_past}
 use Rattle.sd_laws.proofs.RequestsGoOn.{of_request}
 use Rattle.sd_laws.proofs.SharedSteps.{FileLaws, lawful_net}
@@ -40,7 +40,7 @@ all-reached net [] (s ∷ ss) all = absurd all
 all-reached net (p ∷ ps) [] all = absurd all
 all-reached net (p ∷ ps) (s ∷ ss) all = (record { holds = all.0.of_loop.holds; ratio = all.0.reached }, all-reached net ps ss all.1)
 
-module _ (laws : FileLaws) (valid : TradeOffsAreValid) (words : List (List ℕ)) (files : Files) (tells : files.tells ≡ true) (name put : List ℕ) (limits : Limits) (no_overlap : Bool)
+module _ (laws : FileLaws) (valid : TradeOffsAreValid) (words : List (List ℕ)) (files : Files) (tells : IsSome files) (name put : List ℕ) (limits : Limits) (no_overlap : Bool)
     (asked : request_of words ≡ Ok (Storage name limits no_overlap (Some put))) (answer : Answer) (n : ℕ) where
   abbrev wanted : WantedPoints
   wanted = record { limits = limits; no_overlap = no_overlap; certificate = Some put }

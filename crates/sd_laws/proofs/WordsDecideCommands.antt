@@ -1,5 +1,5 @@
 -- The words and files decide each command.
-use Rattle.std.proofs.Common.{◌≡◌, ℕ, Bool, true, false, List, length, Option, None, Some}
+use Rattle.std.proofs.Common.{ℕ, Bool, true, false, List, length, Option, None, Some, IsSome}
 use Rattle.sd_base.specs.FileNet.{net_of}
 use Rattle.sd_base.specs.Net.{Net}
 use Rattle.sd_words.specs.declared.request.Request.{Request}
@@ -9,11 +9,12 @@ use Rattle.storage.specs.BoundedNets.{bound}
 use Rattle.storage.specs.NamedBuffers.{Buffer}
 use Rattle.sd_words.specs.declared.request.Request.TheVariants as requests
 use Rattle.report.specs.AnswerTexts.{repetition_lines}
+use Rattle.sd_io.specs.Outside.{Files}
 use Rattle.sd_steps.specs.declared.answer.Put.{Put}
 use Rattle.sd_steps.specs.declared.file_kind.FileKind.TheVariants.{Graph, Output}
 use Rattle.sd_command.specs.declared.commands.wanted.WantedPoints.{WantedPoints}
 use Rattle.sd_command.specs.declared.commands.wanted.WantedRate.{WantedRate}
-use Rattle.sd_steps.specs.Takings.{Files, taking}
+use Rattle.sd_steps.specs.Takings.{taking}
 use Rattle.sd_steps.specs.Readings.{opening_graph, reading_graph}
 use Rattle.sd_steps.specs.Balancings.{balancing}
 use Rattle.sd_steps.specs.Courses.{printing}
@@ -64,7 +65,7 @@ prints text put = record {
   no_end = λ r s n m is also. is;
 }
 
-module _ (laws : FileLaws) (scenarios : ScenarioLaws) (orders : OrderLaws) (shelf : Files) (tells : shelf.tells ≡ true) where
+module _ (laws : FileLaws) (scenarios : ScenarioLaws) (orders : OrderLaws) (shelf : Files) (tells : IsSome shelf) where
   repetition_decides : (name : List ℕ) → Decides (repetition name shelf)
   repetition_decides name =
       after_decides (opening_graph shelf name false) _ (opening_determines laws shelf tells name false) (λ graph opened.

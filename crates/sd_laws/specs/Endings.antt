@@ -1,5 +1,5 @@
 -- Laws of how a run ends: the words and files decide it.
-use Rattle.std.specs.Prelude.{◌≡◌, ℕ, ◌+◌, ◌≤◌, ◌⊎◌, Bool, true, List, length, Option, Some, Ok}
+use Rattle.std.specs.Prelude.{◌≡◌, ℕ, ◌+◌, ◌≤◌, ◌⊎◌, Bool, true, List, length, Option, Some, IsSome, Ok}
 use Rattle.sd_base.specs.declared.tables.GraphFile.{GraphFile}
 use Rattle.sd_base.specs.declared.tables.ScenarioFile.{ScenarioFile}
 use Rattle.sd_base.specs.declared.limits.Limits.{Limits}
@@ -34,7 +34,7 @@ use Rattle.scenario_rate.specs.declared.answer.Worst.{Worst}
 use Rattle.gen_graph.specs.MadeGraphs.{made_graph}
 use Rattle.balance.specs.Repetition.{IsRound}
 use Rattle.report.specs.declared.refusal.Refusal.{Refusal}
-use Rattle.sd_io.specs.Outside.{Rose}
+use Rattle.sd_io.specs.Outside.{Files, file_under, Rose}
 use Rattle.sd_steps.specs.declared.status.Status.TheVariants as statuses
 use Rattle.sd_command.specs.declared.commands.wanted.WantedPoints.{WantedPoints}
 use Rattle.sd_command.specs.declared.commands.wanted.WantedRate.{WantedRate}
@@ -46,19 +46,18 @@ use Rattle.sd_command.specs.commands.Rates.{IsOfRate, IsRateShown}
 use Rattle.sd_steps.specs.ScenarioSteps.{Entries, timing}
 use Rattle.sd_command.specs.commands.WorstRates.{IsOfWorst, IsShown}
 use Rattle.sd_steps.specs.Courses.{Ending, Refused, Ended, IsCutOff}
-use Rattle.sd_steps.specs.Takings.{Files}
 use Rattle.sd_command.specs.commands.Generations.{usual_limits}
 use Rattle.sd_command.specs.Requests.{course_of}
 use Rattle.sd_command.specs.Runs.{Run, Shows}
 
 -- Where a refusal is due, which is after a number of executions, the command can end in no other way, unless it is cut off.
 abbrev pub DueIsOne : Type 0
-DueIsOne = (words : List (List ℕ)) (files : Files) (refusal : Refusal) (n m : ℕ) (ending : Ending) → files.tells ≡ true
+DueIsOne = (words : List (List ℕ)) (files : Files) (refusal : Refusal) (n m : ℕ) (ending : Ending) → IsSome files
     → course_of words files (Refused refusal) n → course_of words files ending m → IsCutOff ending ⊎ ((ending ≡ Refused refusal) × (m ≡ n))
 
 -- a run without faults over told files: no fault was counted in it
 pub record IsFaultless (run : Run) : Type 0 where
-  pub told : run.outside.shelf.files.tells ≡ true
+  pub told : IsSome run.outside.shelf.files
   pub shelf : Rose run.outside.shelf.faults run.outside.shelf.faults_after → ⊥
   pub out : Rose run.outside.out.faults run.outside.out.faults_after → ⊥
   pub err : Rose run.outside.err.faults run.outside.err.faults_after → ⊥
@@ -89,7 +88,7 @@ abbrev pub ThroughputIsComplete : Type 0
 ThroughputIsComplete = (run : Run) (cut : Bool) (name : List ℕ) (buffers : List Buffer) (no_overlap : Bool) (states : ℕ) (certificate : Option (List ℕ)) → IsFaultless run
     → request_of run.words ≡ Ok (Throughput name buffers no_overlap states certificate)
     → ((refusal : Refusal) → course_of run.words run.outside.shelf.files (Refused refusal) 0 → ⊥)
-    → ((bytes gamma : List ℕ) (graph : GraphFile) → run.outside.shelf.files.named name ≡ Some bytes → Gives bytes true graph → IsRound graph gamma
+    → ((bytes gamma : List ℕ) (graph : GraphFile) → file_under run.outside.shelf.files name ≡ Some bytes → Gives bytes true graph → IsRound graph gamma
     → (let ds : List (Option ℕ) = capacities_of graph.channels buffers in
     let net : Net = bound (net_of graph gamma no_overlap) ds in
     Repeats net states × RateCertificatesFit net ds (record { no_overlap = no_overlap; states = states; certificate = certificate })))
@@ -101,7 +100,7 @@ abbrev pub OrderedIsComplete : Type 0
 OrderedIsComplete = (run : Run) (cut : Bool) (name : List ℕ) (lists : NamedOrders) (buffers : List Buffer) (no_overlap : Bool) (states : ℕ) → IsFaultless run
     → request_of run.words ≡ Ok (Ordered name lists buffers no_overlap states)
     → ((refusal : Refusal) → course_of run.words run.outside.shelf.files (Refused refusal) 0 → ⊥)
-    → ((bytes gamma : List ℕ) (graph : GraphFile) → run.outside.shelf.files.named name ≡ Some bytes → Gives bytes true graph → IsRound graph gamma
+    → ((bytes gamma : List ℕ) (graph : GraphFile) → file_under run.outside.shelf.files name ≡ Some bytes → Gives bytes true graph → IsRound graph gamma
     → Repeats (ordered (bound (net_of graph gamma no_overlap) (capacities_of graph.channels buffers)) (lists_of graph.actors lists)) states)
     → Shows run cut → (run.status ≡ statuses.Done) ⊎ (run.status ≡ statuses.Memory)
 
@@ -111,7 +110,7 @@ abbrev pub CompleteIsComplete : Type 0
 CompleteIsComplete = (run : Run) (cut : Bool) (name : List ℕ) (rounds : ℕ) (buffers : List Buffer) (no_overlap : Bool) (states : ℕ) → IsFaultless run
     → request_of run.words ≡ Ok (Complete name rounds buffers no_overlap states)
     → ((refusal : Refusal) → course_of run.words run.outside.shelf.files (Refused refusal) 0 → ⊥)
-    → ((bytes gamma : List ℕ) (graph : GraphFile) → run.outside.shelf.files.named name ≡ Some bytes → Gives bytes true graph → IsRound graph gamma
+    → ((bytes gamma : List ℕ) (graph : GraphFile) → file_under run.outside.shelf.files name ≡ Some bytes → Gives bytes true graph → IsRound graph gamma
     → Repeats (bound (net_of graph gamma no_overlap) (capacities_of graph.channels buffers)) states)
     → Shows run cut → (run.status ≡ statuses.Done) ⊎ (run.status ≡ statuses.Memory)
 
@@ -139,7 +138,7 @@ abbrev pub StorageIsComplete : Type 0
 StorageIsComplete = (run : Run) (cut : Bool) (name : List ℕ) (limits : Limits) (no_overlap : Bool) (certificate : Option (List ℕ)) → IsFaultless run
     → request_of run.words ≡ Ok (Storage name limits no_overlap certificate)
     → ((refusal : Refusal) (n : ℕ) → course_of run.words run.outside.shelf.files (Refused refusal) n → ⊥)
-    → ((bytes gamma : List ℕ) (graph : GraphFile) → run.outside.shelf.files.named name ≡ Some bytes → Gives bytes true graph → IsRound graph gamma
+    → ((bytes gamma : List ℕ) (graph : GraphFile) → file_under run.outside.shelf.files name ≡ Some bytes → Gives bytes true graph → IsRound graph gamma
     → Suffice (net_of graph gamma no_overlap) limits
     × PointCertificatesFit (net_of graph gamma no_overlap) (record { limits = limits; no_overlap = no_overlap; certificate = certificate }))
     → Shows run cut → (run.status ≡ statuses.Done) ⊎ (run.status ≡ statuses.Memory)
@@ -162,7 +161,7 @@ abbrev pub ScenarioIsComplete : Type 0
 ScenarioIsComplete = (run : Run) (cut : Bool) (name : List ℕ) (certificate : Option (List ℕ)) → IsFaultless run
     → request_of run.words ≡ Ok (Scenario name certificate)
     → ((refusal : Refusal) (n : ℕ) → course_of run.words run.outside.shelf.files (Refused refusal) n → ⊥)
-    → ((bytes : List ℕ) (file : ScenarioFile) → run.outside.shelf.files.named name ≡ Some bytes → GivesFile bytes file → WorstCertificatesFit file certificate)
+    → ((bytes : List ℕ) (file : ScenarioFile) → file_under run.outside.shelf.files name ≡ Some bytes → GivesFile bytes file → WorstCertificatesFit file certificate)
     → Shows run cut → (run.status ≡ statuses.Done) ⊎ (run.status ≡ statuses.Memory)
 
 -- the limits are enough for a search for the points of a file: no distribution that can be reached, and with which each scenario
@@ -177,7 +176,7 @@ abbrev pub ScenarioStorageIsComplete : Type 0
 ScenarioStorageIsComplete = (run : Run) (cut : Bool) (name : List ℕ) (limits : ScenarioLimits) → IsFaultless run
     → request_of run.words ≡ Ok (ScenarioStorage name limits.total limits.distributions)
     → ((refusal : Refusal) (n : ℕ) → course_of run.words run.outside.shelf.files (Refused refusal) n → ⊥)
-    → ((bytes : List ℕ) (file : ScenarioFile) → run.outside.shelf.files.named name ≡ Some bytes → GivesFile bytes file → SearchSuffices file limits)
+    → ((bytes : List ℕ) (file : ScenarioFile) → file_under run.outside.shelf.files name ≡ Some bytes → GivesFile bytes file → SearchSuffices file limits)
     → Shows run cut → (run.status ≡ statuses.Done) ⊎ (run.status ≡ statuses.Memory)
 
 -- such a run of `repetition` is, where no refusal is due

@@ -1,5 +1,5 @@
 -- The points that `storage` prints up to the fastest one are all.
-use Rattle.std.specs.Prelude.{◌≡◌, ℕ, ◌≤◌, Bool, true, Contains, List, map, Option, Some, Ok}
+use Rattle.std.specs.Prelude.{◌≡◌, ℕ, ◌≤◌, Bool, true, Contains, List, map, Option, Some, IsSome, Ok}
 use Rattle.sd_base.specs.declared.limits.Limits.{Limits}
 use Rattle.sd_base.specs.declared.tables.GraphFile.{GraphFile}
 use Rattle.sd_base.specs.FileNet.{net_of}
@@ -13,9 +13,9 @@ use Rattle.pareto_front.specs.declared.point.Point.{Point}
 use Rattle.explore.specs.Ceilings.{IsGreatest}
 use Rattle.explore.specs.Explorations.{pair_of}
 use Rattle.report.specs.StorageTexts.{points_lines}
+use Rattle.sd_io.specs.Outside.{Files, file_under}
 use Rattle.sd_steps.specs.declared.answer.Answer.{Answer}
 use Rattle.sd_steps.specs.Courses.{Answered}
-use Rattle.sd_steps.specs.Takings.{Files}
 use Rattle.sd_command.specs.commands.Points.{ArePointsShown}
 use Rattle.sd_command.specs.Requests.{course_of}
 
@@ -25,7 +25,7 @@ pub record ShowsPoints (files : Files) (name : List ℕ) (limits : Limits) (no_o
   pub bytes : List ℕ
   pub graph : GraphFile
   pub gamma : List ℕ
-  pub there : files.named name ≡ Some bytes
+  pub there : file_under files name ≡ Some bytes
   pub given : Gives bytes true graph
   pub round : IsRound graph gamma
   pub points : List Point
@@ -38,5 +38,5 @@ pub record ShowsPoints (files : Files) (name : List ℕ) (limits : Limits) (no_o
 -- so are those of each answer of `storage`
 abbrev pub FastestPointsAreLast : Type 0
 FastestPointsAreLast =
-    (words : List (List ℕ)) (files : Files) (name : List ℕ) (limits : Limits) (no_overlap : Bool) (certificate : Option (List ℕ)) (answer : Answer) (n : ℕ) → files.tells ≡ true
+    (words : List (List ℕ)) (files : Files) (name : List ℕ) (limits : Limits) (no_overlap : Bool) (certificate : Option (List ℕ)) (answer : Answer) (n : ℕ) → IsSome files
     → request_of words ≡ Ok (Storage name limits no_overlap certificate) → course_of words files (Answered answer) n → ShowsPoints files name limits no_overlap answer

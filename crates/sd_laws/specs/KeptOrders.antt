@@ -1,5 +1,5 @@
 -- No schedule that keeps the orders has a greater rate than `ordered` shows.
-use Rattle.std.specs.Prelude.{◌≡◌, ℕ, Bool, true, List, Some, Ok}
+use Rattle.std.specs.Prelude.{◌≡◌, ℕ, Bool, true, List, Some, IsSome, Ok}
 use Rattle.sd_base.specs.declared.tables.GraphFile.{GraphFile}
 use Rattle.sd_base.specs.FileNet.{net_of}
 use Rattle.sd_words.specs.declared.request.Request.TheVariants.{Ordered}
@@ -15,12 +15,12 @@ use Rattle.ordered.specs.Orders.{AreOrders}
 use Rattle.periodic.specs.declared.schedule.Periodic.{Periodic}
 use Rattle.critical.specs.declared.cycle.NeedCycle.{NeedCycle}
 use Rattle.report.specs.AnswerTexts.{rate_lines}
+use Rattle.sd_io.specs.Outside.{Files, file_under}
 use Rattle.sd_steps.specs.declared.answer.Answer.{Answer}
 use Rattle.sd_steps.specs.Courses.{Answered}
 use Rattle.sd_steps.specs.Orderings.{NamedOrders}
 use Rattle.sd_command.specs.commands.Rates.{IsRateShown}
 use Rattle.sd_command.specs.Requests.{course_of}
-use Rattle.sd_steps.specs.Takings.{Files}
 
 -- the rate that is shown by the net of a graph file, bounded by buffers, whose actors keep the orders, is the greatest of all
 -- schedules of the bounded net that keep them
@@ -28,7 +28,7 @@ pub record ShowsRateInOrder (files : Files) (name : List ℕ) (lists : NamedOrde
   pub bytes : List ℕ
   pub graph : GraphFile
   pub gamma : List ℕ
-  pub there : files.named name ≡ Some bytes
+  pub there : file_under files name ≡ Some bytes
   pub given : Gives bytes true graph
   pub round : IsRound graph gamma
   pub schedule : Periodic
@@ -41,5 +41,5 @@ pub record ShowsRateInOrder (files : Files) (name : List ℕ) (lists : NamedOrde
 -- so is that of each answer of `ordered`
 abbrev pub OrdersAreKept : Type 0
 OrdersAreKept =
-    (words : List (List ℕ)) (files : Files) (name : List ℕ) (lists : NamedOrders) (buffers : List Buffer) (no_overlap : Bool) (states : ℕ) (answer : Answer) (n : ℕ) → files.tells ≡ true
+    (words : List (List ℕ)) (files : Files) (name : List ℕ) (lists : NamedOrders) (buffers : List Buffer) (no_overlap : Bool) (states : ℕ) (answer : Answer) (n : ℕ) → IsSome files
     → request_of words ≡ Ok (Ordered name lists buffers no_overlap states) → course_of words files (Answered answer) n → ShowsRateInOrder files name lists buffers no_overlap states answer

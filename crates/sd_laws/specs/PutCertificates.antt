@@ -1,5 +1,5 @@
 -- The certificates that are put are valid.
-use Rattle.std.specs.Prelude.{◌≡◌, ℕ, ◌≤◌, Bool, true, List, length, Some, Ok}
+use Rattle.std.specs.Prelude.{◌≡◌, ℕ, ◌≤◌, Bool, true, List, length, Some, IsSome, Ok}
 use Rattle.sd_base.specs.declared.tables.GraphFile.{GraphFile}
 use Rattle.sd_base.specs.declared.tables.ScenarioFile.{ScenarioFile}
 use Rattle.sd_base.specs.declared.limits.Limits.{Limits}
@@ -21,12 +21,12 @@ use Rattle.cert_checker.specs.declared.verdict.Reason.{Reason}
 use Rattle.cert_checker.specs.RateCertificates.{IsRateFault}
 use Rattle.cert_checker.specs.ScenarioCertificates.{IsScenarioFault}
 use Rattle.cert_checker.specs.StorageFaults.{IsStorageFault}
+use Rattle.sd_io.specs.Outside.{Files, file_under}
 use Rattle.sd_steps.specs.declared.answer.Answer.{Answer}
 use Rattle.sd_steps.specs.declared.file_kind.FileKind.TheVariants as kinds
 use Rattle.sd_steps.specs.Certifyings.{text_of}
 use Rattle.sd_steps.specs.Courses.{Answered}
 use Rattle.sd_steps.specs.ScenarioSteps.{timing}
-use Rattle.sd_steps.specs.Takings.{Files}
 use Rattle.sd_command.specs.Requests.{course_of}
 
 -- an answer puts under a name the text of a certificate of a rate, which is read again from it, and no line of which is faulty for
@@ -36,7 +36,7 @@ pub record PutsValidRate (files : Files) (name put : List ℕ) (answer : Answer)
   pub graph : GraphFile
   pub gamma : List ℕ
   pub certificate : RateCertificate
-  pub there : files.named name ≡ Some bytes
+  pub there : file_under files name ≡ Some bytes
   pub fits : length bytes ≤ greatest_of quantities.FileBytes
   pub given : Gives bytes true graph
   pub round : IsRound graph gamma
@@ -48,7 +48,7 @@ pub record PutsValidRate (files : Files) (name put : List ℕ) (answer : Answer)
 -- so does each answer of `throughput` with a certificate
 abbrev pub RatesPutAreValid : Type 0
 RatesPutAreValid =
-    (words : List (List ℕ)) (files : Files) (name put : List ℕ) (buffers : List Buffer) (no_overlap : Bool) (states : ℕ) (answer : Answer) (n : ℕ) → files.tells ≡ true
+    (words : List (List ℕ)) (files : Files) (name put : List ℕ) (buffers : List Buffer) (no_overlap : Bool) (states : ℕ) (answer : Answer) (n : ℕ) → IsSome files
     → request_of words ≡ Ok (Throughput name buffers no_overlap states (Some put)) → course_of words files (Answered answer) n → PutsValidRate files name put answer
 
 -- an answer puts under a name the text of a certificate of a trade-off, which is read again from it, and no line of which is faulty
@@ -58,7 +58,7 @@ pub record PutsValidTradeOff (files : Files) (name put : List ℕ) (answer : Ans
   pub graph : GraphFile
   pub gamma : List ℕ
   pub certificate : StorageCertificate
-  pub there : files.named name ≡ Some bytes
+  pub there : file_under files name ≡ Some bytes
   pub fits : length bytes ≤ greatest_of quantities.FileBytes
   pub given : Gives bytes true graph
   pub round : IsRound graph gamma
@@ -70,7 +70,7 @@ pub record PutsValidTradeOff (files : Files) (name put : List ℕ) (answer : Ans
 -- so does each answer of `storage` with a certificate
 abbrev pub TradeOffsPutAreValid : Type 0
 TradeOffsPutAreValid =
-    (words : List (List ℕ)) (files : Files) (name put : List ℕ) (limits : Limits) (no_overlap : Bool) (answer : Answer) (n : ℕ) → files.tells ≡ true
+    (words : List (List ℕ)) (files : Files) (name put : List ℕ) (limits : Limits) (no_overlap : Bool) (answer : Answer) (n : ℕ) → IsSome files
     → request_of words ≡ Ok (Storage name limits no_overlap (Some put)) → course_of words files (Answered answer) n → PutsValidTradeOff files name put answer
 
 -- an answer puts under a name the text of a certificate of a worst rate, which is read again from it, and no line of which is
@@ -80,7 +80,7 @@ pub record PutsValidWorst (files : Files) (name put : List ℕ) (answer : Answer
   pub scenarios : ScenarioFile
   pub graph : TimedGraph
   pub certificate : ScenarioCertificate
-  pub there : files.named name ≡ Some bytes
+  pub there : file_under files name ≡ Some bytes
   pub fits : length bytes ≤ greatest_of quantities.FileBytes
   pub given : GivesFile bytes scenarios
   pub timed : (timing scenarios).passes graph
@@ -92,7 +92,7 @@ pub record PutsValidWorst (files : Files) (name put : List ℕ) (answer : Answer
 -- so does each answer of `scenario` with a certificate
 abbrev pub WorstRatesPutAreValid : Type 0
 WorstRatesPutAreValid =
-    (words : List (List ℕ)) (files : Files) (name put : List ℕ) (answer : Answer) (n : ℕ) → files.tells ≡ true
+    (words : List (List ℕ)) (files : Files) (name put : List ℕ) (answer : Answer) (n : ℕ) → IsSome files
     → request_of words ≡ Ok (Scenario name (Some put)) → course_of words files (Answered answer) n → PutsValidWorst files name put answer
 
 -- what is put beside a rate, a trade-off or a worst rate is valid

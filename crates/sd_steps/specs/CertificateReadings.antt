@@ -6,9 +6,10 @@ use Rattle.cert_text.specs.declared.error.CertError.TheVariants as errors
 use Rattle.cert_text.specs.Reading.{reading_of}
 use Rattle.report.specs.declared.refusal.Refusal.{Refusal}
 use Rattle.report.specs.declared.refusal.Refusal.TheVariants.{CertificateLine, CertificateNumber, UsageWords}
+use Rattle.sd_io.specs.Outside.{Files}
 use Rattle.sd_steps.specs.declared.file_kind.FileKind.TheVariants as kinds
 use Rattle.sd_steps.specs.Courses.{Step, deciding, through}
-use Rattle.sd_steps.specs.Takings.{Files, taking}
+use Rattle.sd_steps.specs.Takings.{taking}
 
 -- a certificate with the version in which it is written
 pub record Written : Type 0 where

@@ -16,9 +16,10 @@ use Rattle.escapes.specs.EscapedNames.{escaped_name}
 use Rattle.sd_base.specs.Limits.{greatest_of}
 use Rattle.report.specs.QuantityWords.{quantity_text}
 use Rattle.sd_base.specs.declared.limits.Quantity.TheVariants as quantity
+use Rattle.sd_io.specs.Outside.{Files}
 use Rattle.sd_steps.specs.declared.file_kind.FileKind.TheVariants as kinds
 use Rattle.sd_steps.specs.Courses.{Step, deciding, through}
-use Rattle.sd_steps.specs.Takings.{Files, taking}
+use Rattle.sd_steps.specs.Takings.{taking}
 
 abbrev pub construct_refusal : ℕ → Construct → Refusal
 construct_refusal place construct.Doctype = DocumentType place

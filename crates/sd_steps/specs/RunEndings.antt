@@ -1,6 +1,6 @@
 -- How a run ends whose command came to this: its status, what it put on the shelf, and what it sent.
-use Rattle.std.specs.Prelude.{◌≡◌, ◌≢◌, ℕ, Bool, true, false, List, Option, Some, None}
-use Rattle.sd_io.specs.Outside.{Rose, SentPart, with_sent}
+use Rattle.std.specs.Prelude.{◌≡◌, ℕ, Bool, true, false, List, Option, Some, None, IsSome}
+use Rattle.sd_io.specs.Outside.{Files, file_under, OthersStay, Rose, SentPart, with_sent}
 use Rattle.report.specs.declared.refusal.Refusal.{Refusal}
 use Rattle.report.specs.RefusalLines.{line_of, memory_line}
 use Rattle.sd_steps.specs.declared.answer.Answer.{Answer}
@@ -9,7 +9,7 @@ use Rattle.sd_steps.specs.declared.status.Status.{Status}
 use Rattle.sd_steps.specs.declared.status.Status.TheVariants as statuses
 use Rattle.sd_steps.specs.Statuses.{status_of}
 use Rattle.sd_steps.specs.Courses.{Ending, Answered, Counted, IsRefusedBy}
-use Rattle.sd_steps.specs.Takings.{Files, shelf_refusal}
+use Rattle.sd_steps.specs.Takings.{shelf_refusal}
 
 -- a sink before and after a run: what it was sent, where it tells that, and its count of faults
 pub record Sending : Type 0 where
@@ -28,36 +28,28 @@ GetsPart text sink = SentPart text sink.sent sink.sent_after × Rose sink.faults
 abbrev pub GetsNothing : Sending → Type 0
 GetsNothing sink = (sink.sent_after ≡ sink.sent) × (sink.faults_after ≡ sink.faults)
 
--- the shelf before and after a run: its files by name, and its count of faults
+-- the shelf before and after a run: what it tells of its files, and its count of faults
 pub record Shelving : Type 0 where
   pub files : Files
-  pub named_after : List ℕ → Option (List ℕ)
+  pub files_after : Files
   pub faults : ℕ
   pub faults_after : ℕ
 
--- all files are as before
-abbrev pub FilesStay : Shelving → Type 0
-FilesStay shelf = (name : List ℕ) → shelf.named_after name ≡ shelf.files.named name
-
--- all files but that of a name are
-abbrev pub OthersStay : Shelving → List ℕ → Type 0
-OthersStay shelf put = (name : List ℕ) → name ≢ put → shelf.named_after name ≡ shelf.files.named name
-
 -- the file that an answer puts is there, where the shelf tells its files, and the others are as before; no fault was counted
 abbrev pub HasPut : Option Put → Shelving → Type 0
-HasPut None shelf = FilesStay shelf × (shelf.faults_after ≡ shelf.faults)
+HasPut None shelf = (shelf.files_after ≡ shelf.files) × (shelf.faults_after ≡ shelf.faults)
 HasPut (Some put) shelf =
-    OthersStay shelf put.name × (shelf.files.tells ≡ true → shelf.named_after put.name ≡ Some put.bytes) × (shelf.faults_after ≡ shelf.faults)
+    OthersStay put.name shelf.files shelf.files_after × (IsSome shelf.files → file_under shelf.files_after put.name ≡ Some put.bytes) × (shelf.faults_after ≡ shelf.faults)
 
 -- the file that an answer puts couldn't be put, and a fault was counted; the others are as before
 pub record HasNotPut (file : Option Put) (put : Put) (shelf : Shelving) : Type 0 where
   pub asked : file ≡ Some put
-  pub others : OthersStay shelf put.name
+  pub others : OthersStay put.name shelf.files shelf.files_after
   pub rose : Rose shelf.faults shelf.faults_after
 
 -- nothing was put; the shelf counted one fault where taking a file failed, and else none
 pub record HasTaken (ending : Ending) (shelf : Shelving) : Type 0 where
-  pub stay : FilesStay shelf
+  pub stay : shelf.files_after ≡ shelf.files
   pub counted : Counted ending shelf.faults shelf.faults_after
 
 -- a line for `err`, with the status of a run that sends it: that of the refusal by which the command ended; of the one for a

@@ -20,9 +20,10 @@ use Rattle.escapes.specs.EscapedNames.{escaped_name}
 use Rattle.report.specs.declared.refusal.Refusal.{Refusal}
 use Rattle.report.specs.declared.refusal.Refusal.TheVariants.{Above, Ratio, Inconsistent, Apart, NoInput, Deadlock}
 use Rattle.report.specs.QuantityWords.{quantity_text}
+use Rattle.sd_io.specs.Outside.{Files}
 use Rattle.sd_steps.specs.declared.file_kind.FileKind.TheVariants as kinds
 use Rattle.sd_steps.specs.Courses.{Step, deciding, through}
-use Rattle.sd_steps.specs.Takings.{Files, taking}
+use Rattle.sd_steps.specs.Takings.{taking}
 use Rattle.sd_steps.specs.Readings.{reading_refusal}
 use Rattle.sd_steps.specs.Balancings.{balancing}
 use Rattle.sd_steps.specs.Nets.{IsDeadlocked, feeding}

@@ -1,11 +1,12 @@
 -- Taking a file from the shelf.
-use Rattle.std.specs.Prelude.{◌≡◌, ℕ, ◌<◌, ◌≤◌, Bool, true, List, length, Option, Some, None, IsSomeAnd}
+use Rattle.std.specs.Prelude.{◌≡◌, ℕ, ◌<◌, ◌≤◌, List, length, Some, None, IsSome, IsSomeAnd}
 use Rattle.sd_base.specs.declared.limits.Quantity.{Quantity}
 use Rattle.sd_base.specs.declared.limits.Quantity.TheVariants as quantities
 use Rattle.sd_base.specs.Limits.{greatest_of}
 use Rattle.report.specs.declared.refusal.Refusal.{Refusal}
 use Rattle.report.specs.declared.refusal.Refusal.TheVariants.{Above, ShelfGraph, ShelfCertificate, ShelfOutput}
 use Rattle.report.specs.QuantityWords.{quantity_text}
+use Rattle.sd_io.specs.Outside.{Files, file_under}
 use Rattle.sd_steps.specs.declared.file_kind.FileKind.{FileKind}
 use Rattle.sd_steps.specs.declared.file_kind.FileKind.TheVariants.{Graph, Certificate, Output}
 use Rattle.sd_steps.specs.Courses.{Step}
@@ -22,21 +23,16 @@ shelf_refusal Graph = ShelfGraph
 shelf_refusal Certificate = ShelfCertificate
 shelf_refusal Output = ShelfOutput
 
--- the files of a shelf by name, where it tells them
-pub record Files : Type 0 where
-  pub tells : Bool
-  pub named : List ℕ → Option (List ℕ)
-
 -- these bytes were taken as the file of a name: they are no more than such a file may have, and they are that file, where the
 -- shelf tells its files
 pub record IsTaken (files : Files) (kind : FileKind) (name bytes : List ℕ) : Type 0 where
   pub fits : length bytes ≤ greatest_of (bytes_of kind)
-  pub told : files.tells ≡ true → files.named name ≡ Some bytes
+  pub told : IsSome files → file_under files name ≡ Some bytes
 
 -- the file of a name isn't there, or is too long
 pub data IsUntaken (files : Files) (kind : FileKind) (name : List ℕ) (refusal : Refusal) : Type 0 where
-  missing : files.tells ≡ true → files.named name ≡ None → refusal ≡ shelf_refusal kind → IsUntaken files kind name refusal
-  too_long : (files.tells ≡ true → IsSomeAnd (files.named name) (λ bytes. greatest_of (bytes_of kind) < length bytes))
+  missing : IsSome files → file_under files name ≡ None → refusal ≡ shelf_refusal kind → IsUntaken files kind name refusal
+  too_long : (IsSome files → IsSomeAnd (file_under files name) (λ bytes. greatest_of (bytes_of kind) < length bytes))
       → refusal ≡ Above None (quantity_text (bytes_of kind)) (greatest_of (bytes_of kind)) → IsUntaken files kind name refusal
 
 -- taking the file of a name

@@ -51,12 +51,7 @@ pub fn deliver<S: Shelf, K: Sink>(
     answer: &Answer,
 ) -> Status
     ensures ends { let o : Outside = record {
-      shelf = record {
-        files = record { tells = S.tells shelf.old; named = S.file shelf.old };
-        named_after = S.file shelf.new;
-        faults = S.faults shelf.old;
-        faults_after = S.faults shelf.new;
-      };
+      shelf = record { files = S.files shelf.old; files_after = S.files shelf.new; faults = S.faults shelf.old; faults_after = S.faults shelf.new };
       out = record { sent = K.sent out.old; sent_after = K.sent out.new; faults = K.faults out.old; faults_after = K.faults out.new };
       err = record { sent = K.sent err.old; sent_after = K.sent err.new; faults = K.faults err.old; faults_after = K.faults err.new };
     } in (cut : Bool) × Ends o result cut (Answered answer.now) }
@@ -73,12 +68,8 @@ pub fn deliver<S: Shelf, K: Sink>(
 
 // Puts a file, where there is one.
 fn put_file<S: Shelf>(alloc: Global, shelf: &mut S, file: &Option<Put>) -> Result<(), Unput>
-    ensures puts { let shelf_run : Shelving = record {
-      files = record { tells = S.tells shelf.old; named = S.file shelf.old };
-      named_after = S.file shelf.new;
-      faults = S.faults shelf.old;
-      faults_after = S.faults shelf.new;
-    } in Puts file.now result shelf_run }
+    ensures puts { let shelf_run : Shelving = record { files = S.files shelf.old; files_after = S.files shelf.new; faults = S.faults shelf.old; faults_after = S.faults shelf.new } in
+        Puts file.now result shelf_run }
     ensures grows { S.faults shelf.old ≤ S.faults shelf.new }
 {
     match file {
@@ -89,12 +80,8 @@ fn put_file<S: Shelf>(alloc: Global, shelf: &mut S, file: &Option<Put>) -> Resul
 
 // Puts a file. The line for a failure is made before.
 fn put_one<S: Shelf>(alloc: Global, shelf: &mut S, put: &Put) -> Result<(), Unput>
-    ensures puts { let shelf_run : Shelving = record {
-      files = record { tells = S.tells shelf.old; named = S.file shelf.old };
-      named_after = S.file shelf.new;
-      faults = S.faults shelf.old;
-      faults_after = S.faults shelf.new;
-    } in Puts (Some put.now) result shelf_run }
+    ensures puts { let shelf_run : Shelving = record { files = S.files shelf.old; files_after = S.files shelf.new; faults = S.faults shelf.old; faults_after = S.faults shelf.new } in
+        Puts (Some put.now) result shelf_run }
     ensures grows { S.faults shelf.old ≤ S.faults shelf.new }
 {
     let line = unput_line(alloc, put.kind)?;

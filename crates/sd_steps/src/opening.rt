@@ -1,4 +1,4 @@
-ghost use Rattle.std.specs.Prelude.{◌≡◌, ℕ, ◌≤◌, IfOk, IsTrue, List};
+ghost use Rattle.std.specs.Prelude.{◌≡◌, ◌≤◌, IfOk, IsTrue};
 ghost use Rattle.cert_checker.specs.Certificates.{HasFewLines};
 ghost use Rattle.cert_text.specs.Orderly.{IsOrderly};
 ghost use Rattle.cert_text.specs.Spellable.{IsSpellable};
@@ -8,7 +8,6 @@ ghost use Rattle.scenario_reader.specs.ScenarioNames.{FileHasWritableNames};
 ghost use Rattle.sd_steps.specs.CertificateReadings.{opening_certificate};
 ghost use Rattle.sd_steps.specs.Readings.{opening_graph};
 ghost use Rattle.sd_steps.specs.ScenarioSteps.{opening_scenarios};
-ghost use Rattle.sd_steps.specs.Takings.{Files};
 ghost use Rattle.sd_steps.specs.Steps.{Takes};
 
 use crate::certificate_reading::read_text;
@@ -29,12 +28,10 @@ pub fn open_graph<S: Shelf>(
     name: &str,
     times: bool,
 ) -> Result<GraphFile, Stop>
-    ensures takes { let files : Files = record { tells = S.tells shelf.old; named = S.file shelf.old } in
-        Takes (opening_graph files name.now times) result (S.faults shelf.old) (S.faults shelf.new) }
+    ensures takes { Takes (opening_graph (S.files shelf.old) name.now times) result (S.faults shelf.old) (S.faults shelf.new) }
     ensures keeps { IfOk result KeepsRules }
     ensures timed { IfOk result (λ graph. IsTrue times → IsTimed graph) }
-    ensures stays { (n : List ℕ) → S.file shelf.new n ≡ S.file shelf.old n }
-    ensures telling { S.tells shelf.new ≡ S.tells shelf.old }
+    ensures stays { S.files shelf.new ≡ S.files shelf.old }
     ensures grows { S.faults shelf.old ≤ S.faults shelf.new }
 {
     let bytes = take(alloc, shelf, FileKind::Graph, name)?;
@@ -47,12 +44,10 @@ pub fn open_scenarios<S: Shelf>(
     shelf: &mut S,
     name: &str,
 ) -> Result<ScenarioFile, Stop>
-    ensures takes { let files : Files = record { tells = S.tells shelf.old; named = S.file shelf.old } in
-        Takes (opening_scenarios files name.now) result (S.faults shelf.old) (S.faults shelf.new) }
+    ensures takes { Takes (opening_scenarios (S.files shelf.old) name.now) result (S.faults shelf.old) (S.faults shelf.new) }
     ensures keeps { IfOk result FileKeepsRules }
     ensures names { IfOk result FileHasWritableNames }
-    ensures stays { (n : List ℕ) → S.file shelf.new n ≡ S.file shelf.old n }
-    ensures telling { S.tells shelf.new ≡ S.tells shelf.old }
+    ensures stays { S.files shelf.new ≡ S.files shelf.old }
     ensures grows { S.faults shelf.old ≤ S.faults shelf.new }
 {
     let bytes = take(alloc, shelf, FileKind::Graph, name)?;
@@ -65,13 +60,11 @@ pub fn open_certificate<S: Shelf>(
     shelf: &mut S,
     name: &str,
 ) -> Result<(u32, Certificate), Stop>
-    ensures takes { let files : Files = record { tells = S.tells shelf.old; named = S.file shelf.old } in
-        Takes (opening_certificate files name.now) result (S.faults shelf.old) (S.faults shelf.new) }
+    ensures takes { Takes (opening_certificate (S.files shelf.old) name.now) result (S.faults shelf.old) (S.faults shelf.new) }
     ensures spellable { IfOk result (λ r. IsSpellable r.1) }
     ensures orderly { IfOk result (λ r. IsOrderly r.1) }
     ensures lines { IfOk result (λ r. HasFewLines r.0 r.1) }
-    ensures stays { (n : List ℕ) → S.file shelf.new n ≡ S.file shelf.old n }
-    ensures telling { S.tells shelf.new ≡ S.tells shelf.old }
+    ensures stays { S.files shelf.new ≡ S.files shelf.old }
     ensures grows { S.faults shelf.old ≤ S.faults shelf.new }
 {
     let bytes = take(alloc, shelf, FileKind::Certificate, name)?;

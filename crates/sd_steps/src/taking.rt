@@ -1,5 +1,5 @@
-ghost use Rattle.std.specs.Prelude.{◌≡◌, ℕ, ◌≤◌, List};
-ghost use Rattle.sd_steps.specs.Takings.{Files, taking};
+ghost use Rattle.std.specs.Prelude.{◌≡◌, ◌≤◌};
+ghost use Rattle.sd_steps.specs.Takings.{taking};
 ghost use Rattle.sd_steps.specs.Steps.{Takes};
 
 use crate::file_kind::FileKind;
@@ -16,10 +16,8 @@ pub fn take<S: Shelf>(
     kind: FileKind,
     name: &str,
 ) -> Result<Rows<u8>, Stop>
-    ensures takes { let files : Files = record { tells = S.tells shelf.old; named = S.file shelf.old } in
-        Takes (taking files kind name.now) result (S.faults shelf.old) (S.faults shelf.new) }
-    ensures stays { (n : List ℕ) → S.file shelf.new n ≡ S.file shelf.old n }
-    ensures telling { S.tells shelf.new ≡ S.tells shelf.old }
+    ensures takes { Takes (taking (S.files shelf.old) kind name.now) result (S.faults shelf.old) (S.faults shelf.new) }
+    ensures stays { S.files shelf.new ≡ S.files shelf.old }
     ensures grows { S.faults shelf.old ≤ S.faults shelf.new }
 {
     match shelf.take(alloc, name, kind.bytes().greatest() as usize) {

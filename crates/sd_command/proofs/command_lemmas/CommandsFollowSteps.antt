@@ -1,10 +1,10 @@
 -- From what steps do to how a command goes.
-use Rattle.std.proofs.Common.{◌≡◌, ℕ, Bool, List, Option, Result, Err, refl, ap, subst, ◌∙◌, inl, inr}
+use Rattle.std.proofs.Common.{◌≡◌, ℕ, List, Result, Err, refl, subst, inl, inr}
+use Rattle.sd_io.specs.Outside.{Files}
 use Rattle.sd_steps.specs.declared.answer.Answer.{Answer}
 use Rattle.sd_steps.specs.declared.stop.Stop.{Stop}
 use Rattle.sd_steps.specs.declared.stop.Stop.TheVariants as stop
 use Rattle.sd_steps.specs.Courses.{Step, Ending, Refused, Failed, Lacking, After, refused, failed, lacking, passed, Counted}
-use Rattle.sd_steps.specs.Takings.{Files}
 use Rattle.sd_steps.specs.Steps.{Does, Takes}
 use Rattle.sd_command.specs.inside.Goings.{Goes}
 
@@ -31,18 +31,10 @@ pub taken_on : {A : Type 0} (step : Step A) (next : A → Ending → ℕ → Typ
 taken_on step next a result n faults middle faults' took goes =
     record { ending = goes.ending; is = goes.is; came = passed a took.0 goes.came; counted = subst (λ (f : ℕ). Counted goes.ending f faults') took.1 goes.counted }
 
--- a shelf whose files are as before
-pub same_shelf : (before after : Files) → after.tells ≡ before.tells → ((name : List ℕ) → after.named name ≡ before.named name) → after ≡ before
-same_shelf before after tells named =
-    let made : Bool → (List ℕ → Option (List ℕ)) → Files = λ t f. record { tells = t; named = f } in
-    let everywhere : after.named ≡ before.named = λ i. λ name. named name i in
-    ap (λ (t : Bool). made t after.named) tells ∙ ap (λ (f : List ℕ → Option (List ℕ)). made before.tells f) everywhere
-
--- so a step on such files takes what it takes on those of before
-pub takes_after : {A : Type 0} (before after : Files) → after.tells ≡ before.tells → ((name : List ℕ) → after.named name ≡ before.named name) → (step : Files → Step A) (result : Result A Stop)
+-- what a step takes from files it takes from the same files
+pub takes_after : {A : Type 0} (before after : Files) → after ≡ before → (step : Files → Step A) (result : Result A Stop)
     (faults faults' : ℕ) → Takes (step after) result faults faults' → Takes (step before) result faults faults'
-takes_after before after tells named step result faults faults' =
-    subst (λ (files : Files). Takes (step files) result faults faults') (same_shelf before after tells named)
+takes_after before after same step result faults faults' = subst (λ (files : Files). Takes (step files) result faults faults') same
 
 -- what a command does with bytes it does with the same bytes
 pub same_bytes : (command : List ℕ → Ending → ℕ → Type 0) (bytes shown : List ℕ) (result : Result Answer Stop) (n faults faults' : ℕ) → shown ≡ bytes

@@ -6,11 +6,11 @@ use Rattle.sd_base.specs.FileNet.{net_of}
 use Rattle.storage.specs.declared.distribution.Distribution.{Distribution}
 use Rattle.storage.specs.BoundedNets.{bound}
 use Rattle.storage.specs.NamedBuffers.{Buffer}
+use Rattle.sd_io.specs.Outside.{Files}
 use Rattle.sd_steps.specs.Courses.{Ending, After}
 use Rattle.sd_steps.specs.Bufferings.{buffering}
 use Rattle.sd_steps.specs.Balancings.{balancing}
 use Rattle.sd_steps.specs.Readings.{opening_graph}
-use Rattle.sd_steps.specs.Takings.{Files}
 
 -- what a command does with the bounded net of a graph, with the graph's repetition vector and the capacities of its channels
 abbrev pub OnNet : Type 1

@@ -5,6 +5,7 @@ use Rattle.cert_text.specs.declared.certificates.Certificate.TheVariants as cert
 use Rattle.cert_text.specs.declared.certificates.ScenarioCertificate.{ScenarioCertificate}
 use Rattle.cert_checker.specs.Certificates.{IsCertificateClaim, IsCertificateFault}
 use Rattle.cert_checker.specs.ScenarioCertificates.{IsWorstClaim, IsWorstFault}
+use Rattle.sd_io.specs.Outside.{Files}
 use Rattle.sd_steps.specs.declared.file_kind.FileKind.TheVariants as files
 use Rattle.sd_steps.specs.Balancings.{balancing}
 use Rattle.sd_steps.specs.CertificateReadings.{opening_certificate}
@@ -12,7 +13,7 @@ use Rattle.sd_steps.specs.Courses.{Ending, After, ends_by}
 use Rattle.sd_steps.specs.Judgings.{judging}
 use Rattle.sd_steps.specs.Readings.{reading_graph}
 use Rattle.sd_steps.specs.ScenarioSteps.{reading_scenarios, timing}
-use Rattle.sd_steps.specs.Takings.{Files, taking}
+use Rattle.sd_steps.specs.Takings.{taking}
 
 -- the verdict on the certificate of a rate or of a trade-off, over the graph that the bytes spell: what is wrong with its net
 -- is a fault of the certificate

@@ -5,11 +5,11 @@ use Rattle.cert_text.specs.declared.certificates.Certificate.TheVariants as cert
 use Rattle.report.specs.declared.claims.CertificateKind.{CertificateKind}
 use Rattle.report.specs.declared.claims.CertificateKind.TheVariants as kinds
 use Rattle.report.specs.ClaimTexts.{converted_line}
+use Rattle.sd_io.specs.Outside.{Files}
 use Rattle.sd_steps.specs.declared.file_kind.FileKind.TheVariants as files
 use Rattle.sd_steps.specs.Certifyings.{certifying}
 use Rattle.sd_steps.specs.CertificateReadings.{opening_certificate}
 use Rattle.sd_steps.specs.Courses.{Ending, After, ends_by, printing}
-use Rattle.sd_steps.specs.Takings.{Files}
 
 -- what a certificate shows
 abbrev pub kind_of : Certificate → CertificateKind

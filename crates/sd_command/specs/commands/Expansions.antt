@@ -13,11 +13,11 @@ use Rattle.report.specs.declared.refusal.Refusal.{Refusal}
 use Rattle.report.specs.declared.refusal.Refusal.TheVariants.{Above}
 use Rattle.report.specs.QuantityWords.{quantity_text}
 use Rattle.report.specs.ExpansionTexts.{expanded_line}
+use Rattle.sd_io.specs.Outside.{Files}
 use Rattle.sd_steps.specs.declared.answer.Put.{Put}
 use Rattle.sd_steps.specs.declared.file_kind.FileKind.TheVariants.{Output}
 use Rattle.sd_command.specs.commands.BoundedCourses.{OnNet, on_file}
 use Rattle.sd_steps.specs.Courses.{Step, deciding, Analysis, Ending, After, ends_by, printing}
-use Rattle.sd_steps.specs.Takings.{Files}
 
 -- the expansion of a net, which has the same schedules, self-timed execution and rates by the firings' names
 pub record IsExpansion (net : Net) (graph big : GraphFile) : Type 0 where

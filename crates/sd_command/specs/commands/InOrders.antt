@@ -5,12 +5,12 @@ use Rattle.sd_base.specs.Schedules.{Admissible, Schedule}
 use Rattle.storage.specs.NamedBuffers.{Buffer}
 use Rattle.ordered.specs.OrderedNets.{ordered as ordered_net}
 use Rattle.ordered.specs.Orders.{KeepsOrders}
+use Rattle.sd_io.specs.Outside.{Files}
 use Rattle.sd_command.specs.declared.commands.wanted.WantedRate.{WantedRate}
 use Rattle.sd_command.specs.commands.BoundedCourses.{OnNet, on_file}
 use Rattle.sd_steps.specs.Courses.{Ending, After}
 use Rattle.sd_steps.specs.Orderings.{NamedOrders, ordering}
 use Rattle.sd_command.specs.commands.Throughputs.{rate_on}
-use Rattle.sd_steps.specs.Takings.{Files}
 
 -- a net with orders admits the schedules that the net admits and that keep the orders: so what holds on it keeps them
 abbrev pub AdmitsInOrder : Net → List (List ℕ) → Type 0

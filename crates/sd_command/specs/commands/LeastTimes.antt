@@ -7,13 +7,13 @@ use Rattle.completion.specs.declared.counts.Part.{Part}
 use Rattle.completion.specs.declared.least_time.Completion.{Completion}
 use Rattle.completion.specs.Completions.{HasLoopWithin, IsCompletionOf}
 use Rattle.report.specs.CompletionTexts.{complete_lines}
+use Rattle.sd_io.specs.Outside.{Files}
 use Rattle.sd_steps.specs.declared.answer.Answer.{Answer}
 use Rattle.sd_command.specs.declared.commands.wanted.WantedRounds.{WantedRounds}
 use Rattle.sd_command.specs.commands.BoundedCourses.{OnNet, on_file}
 use Rattle.sd_steps.specs.Courses.{Analysis, Ending}
 use Rattle.sd_steps.specs.Nets.{on_live}
 use Rattle.sd_steps.specs.Findings.{IsRunRefusal}
-use Rattle.sd_steps.specs.Takings.{Files}
 
 -- the firings of an actor on a way of needs, and their time, as its line has them
 abbrev pub pair_of : Part → ℕ × ℕ

@@ -1,8 +1,8 @@
 -- The command `repetition`.
 use Rattle.std.specs.Prelude.{ℕ, false, List, None}
 use Rattle.report.specs.AnswerTexts.{repetition_lines}
+use Rattle.sd_io.specs.Outside.{Files}
 use Rattle.sd_steps.specs.Courses.{Ending, After, ends_by, printing}
-use Rattle.sd_steps.specs.Takings.{Files}
 use Rattle.sd_steps.specs.Readings.{opening_graph}
 use Rattle.sd_steps.specs.Balancings.{balancing}
 

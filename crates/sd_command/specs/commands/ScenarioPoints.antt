@@ -13,11 +13,11 @@ use Rattle.report.specs.declared.refusal.Refusal.{Refusal}
 use Rattle.report.specs.declared.refusal.Refusal.TheVariants.{DistributionsSpent, EdgesAt}
 use Rattle.report.specs.ScenarioPointTexts.{scenario_points_lines}
 use Rattle.report.specs.StorageTexts.{shared_buffers_list}
+use Rattle.sd_io.specs.Outside.{Files}
 use Rattle.sd_steps.specs.declared.answer.Answer.{Answer}
 use Rattle.sd_steps.specs.Courses.{Analysis, Ending, After, ends_by}
 use Rattle.sd_steps.specs.ScenarioBounds.{bounding_all, fitting_nodes}
 use Rattle.sd_steps.specs.ScenarioSteps.{opening_scenarios}
-use Rattle.sd_steps.specs.Takings.{Files}
 
 -- the search for the points of a file passes the limit of edges with a distribution that can be reached, or more distributions
 -- can be reached than it may find

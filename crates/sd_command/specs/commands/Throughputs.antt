@@ -1,12 +1,12 @@
 -- The command `throughput`.
 use Rattle.std.specs.Prelude.{ℕ, List}
 use Rattle.storage.specs.NamedBuffers.{Buffer}
+use Rattle.sd_io.specs.Outside.{Files}
 use Rattle.sd_command.specs.declared.commands.wanted.WantedRate.{WantedRate}
 use Rattle.sd_command.specs.commands.BoundedCourses.{OnNet, on_file}
 use Rattle.sd_steps.specs.Courses.{Ending}
 use Rattle.sd_steps.specs.Nets.{on_live}
 use Rattle.sd_command.specs.commands.Rates.{execution}
-use Rattle.sd_steps.specs.Takings.{Files}
 
 -- the rate of a bounded net
 abbrev pub rate_on : WantedRate → OnNet

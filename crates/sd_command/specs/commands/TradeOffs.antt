@@ -2,9 +2,9 @@
 use Rattle.std.specs.Prelude.{ℕ, true, List}
 use Rattle.sd_base.specs.declared.tables.GraphFile.{GraphFile}
 use Rattle.sd_base.specs.FileNet.{net_of}
+use Rattle.sd_io.specs.Outside.{Files}
 use Rattle.sd_command.specs.declared.commands.wanted.WantedPoints.{WantedPoints}
 use Rattle.sd_steps.specs.Courses.{Ending, After}
-use Rattle.sd_steps.specs.Takings.{Files}
 use Rattle.sd_steps.specs.Readings.{opening_graph}
 use Rattle.sd_steps.specs.Balancings.{balancing}
 use Rattle.sd_command.specs.commands.Points.{points_of}

@@ -14,10 +14,10 @@ use Rattle.cert_text.specs.declared.certificates.ScenarioCertificate.{ScenarioCe
 use Rattle.cert_maker.specs.WorstCertificates.{IsWorstCertificate}
 use Rattle.report.specs.declared.refusal.Refusal.{Refusal}
 use Rattle.report.specs.WorstTexts.{worst_lines}
+use Rattle.sd_io.specs.Outside.{Files}
 use Rattle.sd_steps.specs.declared.answer.Answer.{Answer}
 use Rattle.sd_steps.specs.Certifyings.{Certifies, IsTooLong}
 use Rattle.sd_steps.specs.Courses.{Analysis, Ending, After, ends_by}
-use Rattle.sd_steps.specs.Takings.{Files}
 use Rattle.sd_steps.specs.ScenarioSteps.{opening_scenarios, timing}
 use Rattle.sd_command.specs.PlainCertificates.{IsPlainWorst}
 

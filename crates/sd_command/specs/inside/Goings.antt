@@ -1,10 +1,10 @@
 -- What calls promise of commands.
-use Rattle.std.specs.Prelude.{◌≡◌, ◌≤◌, ℕ, List, Result, Ok, Err}
+use Rattle.std.specs.Prelude.{◌≡◌, ◌≤◌, ℕ, Result, Ok, Err}
+use Rattle.sd_io.specs.Outside.{Files}
 use Rattle.sd_steps.specs.declared.answer.Answer.{Answer}
 use Rattle.sd_steps.specs.declared.stop.Stop.{Stop}
 use Rattle.sd_steps.specs.declared.stop.Stop.TheVariants.{Refused, OutOfMemory}
 use Rattle.sd_steps.specs.Courses.{Ending, Answered, Lacking, Counted, IsRefusedBy}
-use Rattle.sd_steps.specs.Takings.{Files}
 
 -- a call's result is this end of a command
 abbrev pub IsEnd : Result Answer Stop → Ending → Type 0
@@ -23,6 +23,5 @@ pub record Goes (command : Ending → ℕ → Type 0) (result : Result Answer St
 -- stay, and no count of faults falls
 pub record AnswersFrom (command : Files → Ending → ℕ → Type 0) (before after : Files) (faults faults' : ℕ) (result : Result Answer Stop) (n : ℕ) : Type 0 where
   pub goes : Goes (command before) result n faults faults'
-  pub stays : (name : List ℕ) → after.named name ≡ before.named name
-  pub telling : after.tells ≡ before.tells
+  pub stays : after ≡ before
   pub grows : faults ≤ faults'

@@ -5,7 +5,6 @@ ghost use Rattle.sd_base.specs.Tables.{IsTimed, KeepsRules};
 ghost use Rattle.storage.specs.BoundedNets.{bound};
 ghost use Rattle.storage.specs.NamedBuffers.{Buffer};
 ghost use Rattle.sd_command.specs.commands.BoundedCourses.{on_bounded, on_file};
-ghost use Rattle.sd_steps.specs.Takings.{Files};
 ghost use Rattle.sd_command.specs.inside.Goings.{AnswersFrom, Goes};
 ghost use Rattle.sd_command.specs.inside.Wants.{IsBounded, IsWithin, no_overlap_of, on_net};
 
@@ -34,9 +33,7 @@ pub(crate) fn answer<S: Shelf, L: Ledger>(
 ) -> Result<Answer, Stop>
     requires small { All (λ (b : Buffer). b.1 ≤ CAPACITY) asked.now.buffers }
     requires within { IsWithin asked.now.wanted }
-    ensures answers { let before : Files = record { tells = S.tells shelf.old; named = S.file shelf.old } in
-        let after : Files = record { tells = S.tells shelf.new; named = S.file shelf.new } in
-        AnswersFrom (on_file asked.now.graph asked.now.buffers (no_overlap_of asked.now.wanted) (on_net asked.now.wanted)) before after (S.faults shelf.old) (S.faults shelf.new) result (steps.new.count - steps.old.count) }
+    ensures answers { AnswersFrom (on_file asked.now.graph asked.now.buffers (no_overlap_of asked.now.wanted) (on_net asked.now.wanted)) (S.files shelf.old) (S.files shelf.new) (S.faults shelf.old) (S.faults shelf.new) result (steps.new.count - steps.old.count) }
     ensures rises { steps.old.count ≤ steps.new.count }
     ensures share { steps.new.share ≡ steps.old.share }
 {

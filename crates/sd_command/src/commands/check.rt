@@ -3,7 +3,6 @@ ghost use Rattle.cert_checker.specs.Certificates.{HasFewLines, IsOfGraph};
 ghost use Rattle.cert_text.specs.Orderly.{IsOrderly};
 ghost use Rattle.cert_text.specs.Spellable.{IsSpellable};
 ghost use Rattle.sd_command.specs.commands.Checks.{check, checked, graph_checked, scenario_checked};
-ghost use Rattle.sd_steps.specs.Takings.{Files};
 ghost use Rattle.sd_command.specs.inside.Goings.{AnswersFrom, Goes};
 
 use cert_checker::check_scenario;
@@ -25,9 +24,7 @@ pub(crate) fn answer<S: Shelf>(
     graph: &str,
     certificate: &str,
 ) -> Result<Answer, Stop>
-    ensures answers { let before : Files = record { tells = S.tells shelf.old; named = S.file shelf.old } in
-        let after : Files = record { tells = S.tells shelf.new; named = S.file shelf.new } in
-        AnswersFrom (check graph.now certificate.now) before after (S.faults shelf.old) (S.faults shelf.new) result 0 }
+    ensures answers { AnswersFrom (check graph.now certificate.now) (S.files shelf.old) (S.files shelf.new) (S.faults shelf.old) (S.faults shelf.new) result 0 }
 {
     let bytes = take(alloc, shelf, FileKind::Graph, graph)?;
     let read = open_certificate(alloc, shelf, certificate)?;

@@ -2,7 +2,6 @@ ghost use Rattle.std.specs.Prelude.{◌≡◌, ℕ};
 ghost use Rattle.cert_text.specs.Orderly.{IsOrderly};
 ghost use Rattle.cert_text.specs.Spellable.{IsSpellable};
 ghost use Rattle.sd_command.specs.commands.Conversions.{convert, converted, kind_of};
-ghost use Rattle.sd_steps.specs.Takings.{Files};
 ghost use Rattle.sd_command.specs.inside.Goings.{AnswersFrom, Goes};
 
 use cert_text::Certificate;
@@ -20,9 +19,7 @@ pub(crate) fn answer<S: Shelf>(
     certificate: &str,
     output: &str,
 ) -> Result<Answer, Stop>
-    ensures answers { let before : Files = record { tells = S.tells shelf.old; named = S.file shelf.old } in
-        let after : Files = record { tells = S.tells shelf.new; named = S.file shelf.new } in
-        AnswersFrom (convert certificate.now output.now) before after (S.faults shelf.old) (S.faults shelf.new) result 0 }
+    ensures answers { AnswersFrom (convert certificate.now output.now) (S.files shelf.old) (S.files shelf.new) (S.faults shelf.old) (S.faults shelf.new) result 0 }
 {
     let read = open_certificate(alloc, shelf, certificate)?;
     converted(alloc, output, &read.1)

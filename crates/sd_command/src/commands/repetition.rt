@@ -1,4 +1,3 @@
-ghost use Rattle.sd_steps.specs.Takings.{Files};
 ghost use Rattle.sd_command.specs.commands.Repetitions.{repetition};
 ghost use Rattle.sd_command.specs.inside.Goings.{AnswersFrom};
 
@@ -11,9 +10,7 @@ use std::alloc::Global;
 
 /// How often each actor of a graph file fires in a round.
 pub(crate) fn answer<S: Shelf>(alloc: Global, shelf: &mut S, name: &str) -> Result<Answer, Stop>
-    ensures answers { let before : Files = record { tells = S.tells shelf.old; named = S.file shelf.old } in
-        let after : Files = record { tells = S.tells shelf.new; named = S.file shelf.new } in
-        AnswersFrom (repetition name.now) before after (S.faults shelf.old) (S.faults shelf.new) result 0 }
+    ensures answers { AnswersFrom (repetition name.now) (S.files shelf.old) (S.files shelf.new) (S.faults shelf.old) (S.faults shelf.new) result 0 }
 {
     let graph = open_graph(alloc, shelf, name, false)?;
     let gamma = balanced(alloc, &graph)?;

@@ -9,7 +9,6 @@ ghost use Rattle.scenario_storage.specs.ScenarioPoints.{AreScenarioPoints};
 ghost use Rattle.sd_steps.specs.Courses.{deciding};
 ghost use Rattle.sd_command.specs.commands.ScenarioPoints.{IsSearchEnd, points_in, scenario_storage};
 ghost use Rattle.sd_command.specs.Entrances.{points_entered, scenario_storage_entered};
-ghost use Rattle.sd_steps.specs.Takings.{Files};
 ghost use Rattle.sd_steps.specs.Steps.{Does};
 ghost use Rattle.sd_command.specs.inside.Goings.{AnswersFrom, Goes};
 
@@ -38,11 +37,8 @@ pub(crate) fn answer<R: Threads + Sync, S: Shelf, G: Gate + Sync>(
     requires total { limits.total ≤ STORAGE }
     requires some { LEAST_DISTRIBUTIONS ≤ limits.distributions }
     requires few { limits.distributions ≤ DISTRIBUTIONS }
-    ensures answers { let before : Files = record { tells = S.tells shelf.old; named = S.file shelf.old } in
-        let after : Files = record { tells = S.tells shelf.new; named = S.file shelf.new } in
-        AnswersFrom (scenario_storage name.now limits) before after (S.faults shelf.old) (S.faults shelf.new) result 0 }
-    ensures entered { let before : Files = record { tells = S.tells shelf.old; named = S.file shelf.old } in
-        IfOk result (λ _. scenario_storage_entered name.now limits before (G.entered parallel.now.gate.now)) }
+    ensures answers { AnswersFrom (scenario_storage name.now limits) (S.files shelf.old) (S.files shelf.new) (S.faults shelf.old) (S.faults shelf.new) result 0 }
+    ensures entered { IfOk result (λ _. scenario_storage_entered name.now limits (S.files shelf.old) (G.entered parallel.now.gate.now)) }
 {
     let file = open_scenarios(alloc, shelf, name)?;
     points_in(parallel, alloc, &file, limits)

@@ -1,7 +1,6 @@
 ghost use Rattle.std.specs.Prelude.{◌≡◌, ℕ, ◌-◌, ◌≤◌, IfOk};
 ghost use Rattle.sd_base.specs.Tables.{IsTimed, KeepsRules};
 ghost use Rattle.sd_words.specs.Asked.{AreLimits};
-ghost use Rattle.sd_steps.specs.Takings.{Files};
 ghost use Rattle.sd_command.specs.commands.TradeOffs.{storage, trade_off};
 ghost use Rattle.sd_command.specs.Entrances.{storage_entered, trade_off_entered};
 ghost use Rattle.sd_command.specs.inside.Goings.{AnswersFrom, Goes};
@@ -28,11 +27,8 @@ pub(crate) fn answer<R: Threads + Sync, S: Shelf, G: Gate + Sync, L: Ledger + Se
     steps: &mut Steps<L>,
 ) -> Result<Answer, Stop>
     requires limits { AreLimits wanted.now.limits }
-    ensures answers { let before : Files = record { tells = S.tells shelf.old; named = S.file shelf.old } in
-        let after : Files = record { tells = S.tells shelf.new; named = S.file shelf.new } in
-        AnswersFrom (storage name.now wanted.now) before after (S.faults shelf.old) (S.faults shelf.new) result (steps.new.count - steps.old.count) }
-    ensures entered { let before : Files = record { tells = S.tells shelf.old; named = S.file shelf.old } in
-        IfOk result (λ _. storage_entered name.now wanted.now before (G.entered parallel.now.gate.now) (steps.new.count - steps.old.count)) }
+    ensures answers { AnswersFrom (storage name.now wanted.now) (S.files shelf.old) (S.files shelf.new) (S.faults shelf.old) (S.faults shelf.new) result (steps.new.count - steps.old.count) }
+    ensures entered { IfOk result (λ _. storage_entered name.now wanted.now (S.files shelf.old) (G.entered parallel.now.gate.now) (steps.new.count - steps.old.count)) }
     ensures rises { steps.old.count ≤ steps.new.count }
     ensures share { steps.new.share ≡ steps.old.share }
 {

@@ -6,7 +6,6 @@ ghost use Rattle.automaton.specs.CriticalCycles.{weights};
 ghost use Rattle.cert_text.specs.declared.certificates.Certificate.{Certificate as ACertificate};
 ghost use Rattle.sd_steps.specs.Certifyings.{Certifies, IsTooLong};
 ghost use Rattle.sd_steps.specs.Courses.{deciding, ends_by};
-ghost use Rattle.sd_steps.specs.Takings.{Files};
 ghost use Rattle.sd_command.specs.commands.WorstRates.{scenario, telling_worst, worst_of};
 ghost use Rattle.sd_steps.specs.Steps.{Does};
 ghost use Rattle.sd_command.specs.inside.Goings.{AnswersFrom, Goes};
@@ -31,9 +30,7 @@ pub(crate) fn answer<S: Shelf>(
     name: &str,
     certificate: &Option<Text>,
 ) -> Result<Answer, Stop>
-    ensures answers { let before : Files = record { tells = S.tells shelf.old; named = S.file shelf.old } in
-        let after : Files = record { tells = S.tells shelf.new; named = S.file shelf.new } in
-        AnswersFrom (scenario name.now certificate.now) before after (S.faults shelf.old) (S.faults shelf.new) result 0 }
+    ensures answers { AnswersFrom (scenario name.now certificate.now) (S.files shelf.old) (S.files shelf.new) (S.faults shelf.old) (S.faults shelf.new) result 0 }
 {
     let file = open_scenarios(alloc, shelf, name)?;
     worst_of(alloc, &file, certificate)

@@ -9,8 +9,7 @@ returns-in_err-request-clause-answers g c =
     let p = err_from_is_err_and c.from_residual.result c.from_residual.ensures.1 in
     rw (p.1, p.2) (record {
       goes = step_stops (asking c.args.words.now) _ _ (omega arith) _ _ c.in_err-request.ensures.does;
-      stays = λ name. refl;
-      telling = refl;
+      stays = refl;
       grows = omega arith;
     })
 
@@ -18,7 +17,6 @@ pub returns-clause-answers : goal.returns-clause-answers
 returns-clause-answers g c = record {
   goes = goes_on (asking c.args.words.now) _ _ _ _ _ _ c.in_ok-request.ensures.does c.command_answer.ensures.answers.goes;
   stays = c.command_answer.ensures.answers.stays;
-  telling = c.command_answer.ensures.answers.telling;
   grows = c.command_answer.ensures.answers.grows;
 }
 

@@ -1,6 +1,5 @@
 use Rattle.std.proofs.Common.{◌-◌, ℕ, List, IfOk, subst}
 use Rattle.scenario_storage.specs.declared.point.ScenarioLimits.{ScenarioLimits}
-use Rattle.sd_steps.specs.Takings.{Files}
 use Rattle.sd_command.specs.declared.commands.wanted.WantedPoints.{WantedPoints}
 use Rattle.sd_command.specs.Entrances.{scenario_storage_entered, storage_entered}
 use Rattle.sd_command.proofs.command_lemmas.DoneRunsEntered.{ok-nothing}
@@ -33,15 +32,13 @@ returns-in-Complete-clause-entered g c = rw c.in-Complete.is (ok-nothing _)
 pub returns-in-Storage-clause-entered : goal.returns-in-Storage-clause-entered
 returns-in-Storage-clause-entered g c =
     let wanted : WantedPoints = record { limits = c.in-Storage.limits; no_overlap = c.in-Storage.no_overlap; certificate = c.in-Storage.certificate } in
-    let files : Files = record { tells = g.S.Shelf.tells c.args.shelf.now; named = g.S.Shelf.file c.args.shelf.now } in
     rw c.in-Storage.is
-    (subst (λ (name : List ℕ). IfOk c.answer-in-Storage.result (λ answer. storage_entered name wanted files (g.G.Gate.entered c.args.parallel.now.gate.now) (c.answer-in-Storage.new.steps.count - c.args.steps.now.count)))
+    (subst (λ (name : List ℕ). IfOk c.answer-in-Storage.result (λ answer. storage_entered name wanted (g.S.Shelf.files c.args.shelf.now) (g.G.Gate.entered c.args.parallel.now.gate.now) (c.answer-in-Storage.new.steps.count - c.args.steps.now.count)))
     c.as_str-in-Storage.ensures c.answer-in-Storage.ensures.entered)
 
 pub returns-in-ScenarioStorage-clause-entered : goal.returns-in-ScenarioStorage-clause-entered
 returns-in-ScenarioStorage-clause-entered g c =
     let limits : ScenarioLimits = record { total = c.in-ScenarioStorage.limit; distributions = c.in-ScenarioStorage.distributions } in
-    let files : Files = record { tells = g.S.Shelf.tells c.args.shelf.now; named = g.S.Shelf.file c.args.shelf.now } in
     rw c.in-ScenarioStorage.is
-    (subst (λ (name : List ℕ). IfOk c.answer-in-ScenarioStorage.result (λ answer. scenario_storage_entered name limits files (g.G.Gate.entered c.args.parallel.now.gate.now)))
+    (subst (λ (name : List ℕ). IfOk c.answer-in-ScenarioStorage.result (λ answer. scenario_storage_entered name limits (g.S.Shelf.files c.args.shelf.now) (g.G.Gate.entered c.args.parallel.now.gate.now)))
     c.as_str-in-ScenarioStorage.ensures c.answer-in-ScenarioStorage.ensures.entered)

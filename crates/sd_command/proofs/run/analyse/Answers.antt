@@ -5,11 +5,11 @@ use Rattle.sd_command.proofs.run.analyse.Goals as goal
 
 pub returns-in-Ok-clause-shows : goal.returns-in-Ok-clause-shows
 returns-in-Ok-clause-shows g c =
-    shows_answer _ (record { tells = g.S.Shelf.tells c.args.shelf.now; named = g.S.Shelf.file c.args.shelf.now }) _ _ _ _ _ _ _ _ c.in-Ok.ensures.answers.telling c.in-Ok.ensures.answers.stays _ _ _ (omega arith) _ c.in-Ok.ensures.answers.goes c.deliver.ensures.ends
+    shows_answer _ (g.S.Shelf.files c.args.shelf.now) _ _ _ _ _ _ _ _ c.in-Ok.ensures.answers.stays _ _ _ (omega arith) _ c.in-Ok.ensures.answers.goes c.deliver.ensures.ends
 
 pub returns-in-Err-clause-shows : goal.returns-in-Err-clause-shows
 returns-in-Err-clause-shows g c =
-    shows_stop _ (record { tells = g.S.Shelf.tells c.args.shelf.now; named = g.S.Shelf.file c.args.shelf.now }) _ _ _ _ _ _ c.in-Err.ensures.answers.stays _ _ _ (omega arith) (refl, refl) _ c.in-Err.ensures.answers.goes c.send_stop.ensures.sends
+    shows_stop _ (g.S.Shelf.files c.args.shelf.now) _ _ _ _ _ _ c.in-Err.ensures.answers.stays _ _ _ (omega arith) (refl, refl) _ c.in-Err.ensures.answers.goes c.send_stop.ensures.sends
 
 pub returns-in-Ok-clause-entered : goal.returns-in-Ok-clause-entered
 returns-in-Ok-clause-entered g c = λ done. c.in-Ok.ensures.entered

@@ -10,7 +10,6 @@ returns-in_err-read g c =
       answers = record {
         goes = taking_stops _ _ _ refl _ _ _ c.in_err-read.ensures.takes;
         stays = c.in_err-read.ensures.stays;
-        telling = c.in_err-read.ensures.telling;
         grows = c.in_err-read.ensures.grows;
       };
     })
@@ -20,7 +19,6 @@ returns g c = record {
   answers = record {
     goes = taken_on _ _ c.in_ok-read.read _ 0 _ _ _ c.in_ok-read.ensures.takes (c.converted.ensures _);
     stays = c.in_ok-read.ensures.stays;
-    telling = c.in_ok-read.ensures.telling;
     grows = c.in_ok-read.ensures.grows;
   };
 }

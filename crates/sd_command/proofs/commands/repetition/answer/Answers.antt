@@ -13,7 +13,6 @@ returns-in_err-graph g c =
       answers = record {
         goes = taking_stops _ _ _ refl _ _ _ c.in_err-graph.ensures.takes;
         stays = c.in_err-graph.ensures.stays;
-        telling = c.in_err-graph.ensures.telling;
         grows = c.in_err-graph.ensures.grows;
       };
     })
@@ -25,7 +24,6 @@ returns-in_err-gamma g c =
       answers = record {
         goes = taken_on _ _ c.in_ok-graph.graph _ _ _ _ _ c.in_ok-graph.ensures.takes (step_stops (balancing c.in_ok-graph.graph) _ 0 refl _ _ c.in_err-gamma.ensures);
         stays = c.in_ok-graph.ensures.stays;
-        telling = c.in_ok-graph.ensures.telling;
         grows = c.in_ok-graph.ensures.grows;
       };
     })
@@ -38,7 +36,6 @@ returns g c = record {
         (goes_on (balancing c.in_ok-graph.graph) _ c.in_ok-gamma.gamma _ _ _ _ c.in_ok-gamma.ensures
         (print_answers _ _ _ _ (c.in_ok-repetition_text.ensures ∙ ap (λ (v : List ℕ). repetition_lines c.in_ok-graph.graph v) c.as_slice.ensures) refl));
     stays = c.in_ok-graph.ensures.stays;
-    telling = c.in_ok-graph.ensures.telling;
     grows = c.in_ok-graph.ensures.grows;
   };
 }

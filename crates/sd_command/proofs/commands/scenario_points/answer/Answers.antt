@@ -9,7 +9,6 @@ returns-in_err-file-clause-answers g c =
     rw (p.1, p.2) (record {
       goes = taking_stops _ _ _ refl _ _ _ c.in_err-file.ensures.takes;
       stays = c.in_err-file.ensures.stays;
-      telling = c.in_err-file.ensures.telling;
       grows = c.in_err-file.ensures.grows;
     })
 
@@ -17,7 +16,6 @@ pub returns-clause-answers : goal.returns-clause-answers
 returns-clause-answers g c = record {
   goes = taken_on _ _ c.in_ok-file.file _ _ _ _ _ c.in_ok-file.ensures.takes (c.points_in.ensures.goes _);
   stays = c.in_ok-file.ensures.stays;
-  telling = c.in_ok-file.ensures.telling;
   grows = c.in_ok-file.ensures.grows;
 }
 

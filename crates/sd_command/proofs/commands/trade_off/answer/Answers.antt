@@ -9,7 +9,6 @@ returns-in_err-graph-clause-answers g c =
     rw (p.1, p.2) (record {
       goes = taking_stops _ _ _ (omega arith) _ _ _ c.in_err-graph.ensures.takes;
       stays = c.in_err-graph.ensures.stays;
-      telling = c.in_err-graph.ensures.telling;
       grows = c.in_err-graph.ensures.grows;
     })
 
@@ -17,7 +16,6 @@ pub returns-clause-answers : goal.returns-clause-answers
 returns-clause-answers g c = record {
   goes = taken_on _ _ c.in_ok-graph.graph _ _ _ _ _ c.in_ok-graph.ensures.takes (c.trade_off.ensures.goes _);
   stays = c.in_ok-graph.ensures.stays;
-  telling = c.in_ok-graph.ensures.telling;
   grows = c.in_ok-graph.ensures.grows;
 }
 

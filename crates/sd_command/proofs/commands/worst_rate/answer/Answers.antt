@@ -10,7 +10,6 @@ returns-in_err-file g c =
       answers = record {
         goes = taking_stops _ _ _ refl _ _ _ c.in_err-file.ensures.takes;
         stays = c.in_err-file.ensures.stays;
-        telling = c.in_err-file.ensures.telling;
         grows = c.in_err-file.ensures.grows;
       };
     })
@@ -20,7 +19,6 @@ returns g c = record {
   answers = record {
     goes = taken_on _ _ c.in_ok-file.file _ _ _ _ _ c.in_ok-file.ensures.takes (c.worst_of.ensures _);
     stays = c.in_ok-file.ensures.stays;
-    telling = c.in_ok-file.ensures.telling;
     grows = c.in_ok-file.ensures.grows;
   };
 }
