@@ -28,3 +28,4 @@ pub mod MachineSteps
 pub mod MachineWalks
 pub mod RecognisedFaults
 pub mod PassedRuns
+pub mod TagsPassWhole

@@ -51,7 +51,7 @@ over_tag_white strict a x h as' (b ∷ w) ready white =
     (at_gap h as', ready_gap a h as', over_gap strict a x (at_gap h as') (λ c. ap (follow strict) (ready.gap c)) (λ c. refl) (b ∷ w) (white, λ e. cc))
 
 -- the first byte of an attribute's name, and then the whole name
-over_attribute_name : (strict : Bool) (a : Around) (h : Holder) (as' : List Attribute) (n : List ℕ) → IsName n
+pub over_attribute_name : (strict : Bool) (a : Around) (h : Holder) (as' : List Attribute) (n : List ℕ) → IsName n
     → Along strict a (at_gap h as') n a (in_attribute h as' n)
 unfolding table
 over_attribute_name strict a h as' [] named rest = absurd named

@@ -1,6 +1,6 @@
 //! The attributes of a tag.
 //!
-//! Up to 8 attributes a tag has no set of names, and a new name is compared with each; above that they stand in a set too.
+//! Up to 64 attributes a tag has no set of names, and a new name is compared with each; above that they stand in a set too.
 //! Most tags have fewer, and a file can't make the reader slow by a tag of many.
 ghost use Rattle.std.specs.Prelude.{◌≡◌, ◌==◌, ◌<◌, ◌≤◌, ℕ, true, if◌then◌else◌, List, [], ◌∷◌, ◌++◌, length, IfOk, OnOk};
 ghost use Rattle.std.specs.String.{string_bytes};
@@ -8,6 +8,7 @@ ghost use Rattle.std.specs.Str.{bytes_eq};
 ghost use Rattle.std.specs.BTreeSet.{contains_text};
 ghost use Rattle.file_text.specs.inside.AttributeNames.{has_name, AreNamesOf, AreNamesWith};
 
+use crate::characters::is_same;
 use crate::{Attribute, AttributeList};
 use sd_base::Text;
 use std::alloc::{AllocError, Global};
@@ -16,7 +17,7 @@ use std::marker::Model;
 use std::mem;
 
 /// Among so many attributes a name is looked for one by one.
-const FEW: usize = 8;
+const FEW: usize = 64;
 
 /// The attributes of a tag so far. Where they are more than a few their names stand beside them, so that a name is
 /// looked for at the cost of the logarithm of their count.
@@ -131,9 +132,7 @@ impl Attributes {
 fn stands_among(attributes: &[Attribute], name: &str) -> bool
     ensures { result ≡ has_name name.now attributes.now }
 {
-    attributes
-        .iter()
-        .any(|attribute| attribute.name.as_str() == name)
+    attributes.iter().any(|attribute| is_same(attribute.name.as_str().as_bytes(), name.as_bytes()))
 }
 
 /// The names of attributes and one more name, once they are more than a few.

@@ -1,7 +1,8 @@
 //! Whole characters in front of some bytes, by runs.
 
 ghost use Rattle.std.specs.Prelude.{◌≡◌, ◌<◌, ◌≤◌, ◌↔◌, true, length, take, IsTrue, Some, None, if◌then◌else◌};
-ghost use Rattle.file_text.specs.Grammar.{is_character, is_name_byte, is_plain, is_white};
+ghost use Rattle.std.specs.Str.{bytes_eq};
+ghost use Rattle.file_text.specs.Grammar.{is_character, is_name_byte, is_name_start, is_plain, is_white};
 ghost use Rattle.file_text.specs.inside.Runs.{HasFurther, HasSecond, IsCharacter, IsPartOfBody, IsRun, after_byte, behind, hyphened, is_in_body, place_behind, takes};
 
 use crate::due::{second_max, second_min};
@@ -65,6 +66,14 @@ fn is_name_byte(b: u8) -> bool
         || (b == b'_' || b == b':' || b >= 128)
         || (b >= b'0' && b <= b'9')
         || (b == b'.' || b == b'-')
+}
+
+/// Whether a character that begins so may begin a name.
+#[inline(always)]
+pub(crate) fn is_name_start(b: u8) -> bool
+    ensures { result ≡ is_name_start b }
+{
+    (b >= b'a' && b <= b'z') || (b >= b'A' && b <= b'Z') || (b == b'_' || b == b':' || b >= 128)
 }
 
 /// How many bytes in front are whole characters of the run.
@@ -208,4 +217,19 @@ pub(crate) fn same_len(left: &[u8], bytes: &[u8]) -> usize
         count += 1;
     }
     count
+}
+
+/// Whether two names are the same. Most others differ in length or at the end.
+#[inline(always)]
+pub(crate) fn is_same(left: &[u8], right: &[u8]) -> bool
+    ensures { result ≡ bytes_eq left.now right.now }
+{
+    let n = left.len();
+    if n != right.len() {
+        return false;
+    }
+    if n > 0 && left[n - 1] != right[n - 1] {
+        return false;
+    }
+    left == right
 }

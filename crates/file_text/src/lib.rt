@@ -20,6 +20,7 @@ mod tags;
 mod taken;
 mod texts;
 mod tree;
+mod whole_tags;
 
 pub use error::{Construct, TextError};
 pub use laws::answers_are_one;

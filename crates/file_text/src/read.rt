@@ -22,7 +22,7 @@ pub fn read_tree(alloc: Global, bytes: &[u8]) -> Result<Tree, TextError>
     let mut scanner = Scanner::new(alloc);
     let mut i = 0;
     while i < bytes.len() {
-        let passed = scanner.pass(&bytes[i..])?;
+        let passed = scanner.pass(alloc, &bytes[i..])?;
         if passed > 0 {
             i += passed;
         } else {

@@ -9,7 +9,7 @@ use crate::due::Due;
 use crate::mode::{Comment, Mode};
 use crate::reference::{Reference, Referred, entity_len};
 use crate::scanner::Scanner;
-use std::alloc::AllocError;
+use std::alloc::{AllocError, Global};
 
 /// Adds bytes, of which there are often none.
 #[inline(always)]
@@ -26,27 +26,28 @@ impl Scanner {
     /// Passes the characters in front that go on with a comment, a text, a value, a name, an entity or white, and says how many
     /// bytes they are.
     #[inline(always)]
-    pub(crate) fn pass(&mut self, bytes: &[u8]) -> Result<usize, AllocError>
+    pub(crate) fn pass(&mut self, alloc: Global, bytes: &[u8]) -> Result<usize, AllocError>
         ensures within { IfOk result (λ n. n ≤ length bytes.now) }
         ensures same { IfOk result (λ n. run true (Some (state_of self.old)) (take n bytes.now) ≡ Some (state_of self.new)) }
     {
         match self.due {
-            Due::Nothing => self.pass_characters(bytes),
+            Due::Nothing => self.pass_characters(alloc, bytes),
             Due::Byte { .. } => Ok(0),
         }
     }
 
     /// The same between two characters.
     #[inline(always)]
-    fn pass_characters(&mut self, bytes: &[u8]) -> Result<usize, AllocError>
+    fn pass_characters(&mut self, alloc: Global, bytes: &[u8]) -> Result<usize, AllocError>
         requires { self.old.due ≡ Due.Nothing }
         ensures within { IfOk result (λ n. n ≤ length bytes.now) }
         ensures same { IfOk result (λ n. run true (Some (state_of self.old)) (take n bytes.now) ≡ Some (state_of self.new)) }
     {
         match self.mode {
             Mode::Comment(comment) => Ok(self.pass_comment(comment, bytes)),
-            Mode::Between => Ok(self.text_len(bytes)),
+            Mode::Between => self.pass_between(alloc, bytes),
             Mode::Value => self.pass_value(bytes),
+            Mode::Gap => self.pass_gap(alloc, bytes),
             Mode::Naming => self.pass_name(bytes),
             Mode::Attribute => self.pass_attribute(bytes),
             Mode::Closing(matched) => Ok(self.pass_closing(matched, bytes)),
@@ -69,6 +70,21 @@ impl Scanner {
         let (count, place) = body_len(comment, bytes);
         self.mode = Mode::Comment(place);
         count
+    }
+
+    /// Passes what goes on between tags, or a whole tag.
+    #[inline(always)]
+    fn pass_between(&mut self, alloc: Global, bytes: &[u8]) -> Result<usize, AllocError>
+        requires due { self.old.due ≡ Due.Nothing }
+        requires mode { self.old.mode ≡ Mode.Between }
+        ensures within { IfOk result (λ n. n ≤ length bytes.now) }
+        ensures same { IfOk result (λ n. run true (Some (state_of self.old)) (take n bytes.now) ≡ Some (state_of self.new)) }
+    {
+        if bytes.len() > 1 && bytes[0] == b'<' && !self.frames.is_empty() {
+            self.pass_tag(alloc, bytes)
+        } else {
+            Ok(self.text_len(bytes))
+        }
     }
 
     /// How many bytes of a text stand in front; outside the root, of white.

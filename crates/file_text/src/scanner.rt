@@ -28,6 +28,15 @@ pub(crate) enum Held {
     Tag,
 }
 
+impl Held {
+    #[inline(always)]
+    pub(crate) fn is_tag(self) -> bool
+        ensures { IsTrue result → self ≡ Held.Tag }
+    {
+        matches!(self, Held::Tag)
+    }
+}
+
 /// The tag being read, or the declaration.
 pub(crate) struct Tag {
     pub(crate) held: Held,

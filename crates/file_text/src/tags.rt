@@ -18,7 +18,7 @@ use std::alloc::{AllocError, Global};
 use std::mem;
 
 /// The text of whole characters.
-fn text_of(bytes: &[u8]) -> &str
+pub(crate) fn text_of(bytes: &[u8]) -> &str
     requires { IsDue bytes.now Nothing }
     ensures { result.now ≡ bytes.now }
 {

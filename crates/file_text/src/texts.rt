@@ -11,7 +11,7 @@ use sd_base::limits::DEPTH;
 use std::alloc::AllocError;
 
 /// The greatest count of elements that are open at one place.
-const MOST_OPEN: usize = DEPTH as usize;
+pub(crate) const MOST_OPEN: usize = DEPTH as usize;
 
 /// What stands between tags.
 impl Scanner {
