@@ -4,8 +4,8 @@ ghost use Rattle.sd_base.specs.Schedules.{HasInputs};
 ghost use Rattle.sd_base.specs.SelfTimed.{events_by, starts_by};
 ghost use Rattle.sd_base.specs.Untimed.{IsLive};
 ghost use Rattle.sd_base.specs.Connection.{IsConnected};
-ghost use Rattle.selftimed.specs.declared.engine.Stage.TheVariants.{Fresh};
 ghost use Rattle.loops.specs.LoopAnswers.{IsFound, IsRunRefusal};
+ghost use Rattle.event_loops.specs.inside.Going.{IsReady, NeverStops};
 ghost use Rattle.event_loops.specs.inside.Searching.{IsPair, IsPeriod};
 ghost use Rattle.event_loops.specs.inside.Tracing.{IsTrace};
 
@@ -82,13 +82,11 @@ fn repeated_loop<'a, F: Firing>(
     period: u64,
     states: u64,
 ) -> Result<LoopTable, RunError>
-    requires live { IsLive (F.net wired.now.net.now) }
+    requires runs { NeverStops (F.net wired.now.net.now) }
     requires connected { IsConnected (F.net wired.now.net.now) }
-    requires inputs { HasInputs (F.net wired.now.net.now) }
     requires net { lead.old.net.now ≡ wired.now.net.now }
-    requires fresh { lead.old.stage ≡ Fresh }
+    requires ready { IsReady lead.old.stage lead.old.most }
     requires start { lead.old.moment ≡ 0 }
-    requires most { lead.old.most ≡ MOST_STARTS }
     requires period { IsPeriod (F.net wired.now.net.now) period }
     requires some { 1 ≤ states }
     ensures found { IfOk result (IsFound (F.net wired.now.net.now) states) }

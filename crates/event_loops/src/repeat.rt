@@ -1,13 +1,10 @@
 //! The first shape that comes again, once the time from a shape to its like is known.
 ghost use Rattle.std.specs.Prelude.{◌≡◌, ℕ, ◌↔◌, ◌+◌, ◌≤◌, [], IfErr, IfOk, IsTrue, MatchBool, length, replicate};
-ghost use Rattle.sd_base.specs.declared.limits.TheConstants.{STARTS};
-ghost use Rattle.sd_base.specs.Schedules.{HasInputs};
 ghost use Rattle.sd_base.specs.SelfTimed.{IsEvent, starts_by};
-ghost use Rattle.sd_base.specs.Untimed.{IsLive};
-ghost use Rattle.selftimed.specs.declared.engine.Stage.TheVariants.{Fresh, Running};
+ghost use Rattle.selftimed.specs.declared.engine.Stage.TheVariants.{Running};
 ghost use Rattle.loops.specs.LoopAnswers.{IsRunRefusal};
 ghost use Rattle.loops.specs.StartRows.{AreStarts};
-ghost use Rattle.event_loops.specs.inside.Going.{Follows};
+ghost use Rattle.event_loops.specs.inside.Going.{Follows, IsReady, NeverStops};
 ghost use Rattle.event_loops.specs.inside.Searching.{IsPeriod, IsLikeness, IsRepeat};
 
 use crate::collect::add_starts;
@@ -26,14 +23,11 @@ pub(crate) fn first_repeat<'a, F: Firing>(
     period: u64,
     states: u64,
 ) -> Result<u64, RunError>
-    requires live { IsLive (F.net lead.old.net.now) }
-    requires inputs { HasInputs (F.net lead.old.net.now) }
+    requires runs { NeverStops (F.net lead.old.net.now) }
     requires net { trail.old.net.now ≡ lead.old.net.now }
-    requires lead { lead.old.stage ≡ Fresh }
+    requires lead { IsReady lead.old.stage lead.old.most }
     requires start { lead.old.moment ≡ 0 }
-    requires trail { trail.old.stage ≡ Fresh }
-    requires lead_most { lead.old.most ≡ STARTS }
-    requires trail_most { trail.old.most ≡ STARTS }
+    requires trail { IsReady trail.old.stage trail.old.most }
     requires starts { starts.old ≡ replicate (length (F.net lead.old.net.now).times) [] }
     requires period { IsPeriod (F.net lead.old.net.now) period }
     requires some { 1 ≤ states }
@@ -65,8 +59,7 @@ fn meets<'a, F: Firing>(
     trail: &mut Engine<'a, F>,
     period: u64,
 ) -> Result<bool, NoMemory>
-    requires live { IsLive (F.net lead.now.net.now) }
-    requires inputs { HasInputs (F.net lead.now.net.now) }
+    requires runs { NeverStops (F.net lead.now.net.now) }
     requires net { trail.old.net.now ≡ lead.now.net.now }
     requires lead { lead.now.stage ≡ Running }
     requires trail { trail.old.stage ≡ Running }
@@ -90,8 +83,7 @@ fn meets<'a, F: Firing>(
 /// Brings an engine to the first event that is not before `period` time units ahead of `end`, and tells
 /// whether it stands just there.
 fn follow<F: Firing>(trail: &mut Engine<F>, end: u64, period: u64) -> Result<bool, NoMemory>
-    requires live { IsLive (F.net trail.old.net.now) }
-    requires inputs { HasInputs (F.net trail.old.net.now) }
+    requires runs { NeverStops (F.net trail.old.net.now) }
     requires running { trail.old.stage ≡ Running }
     requires some { 1 ≤ period }
     requires event { IsEvent (F.net trail.old.net.now) end }

@@ -12,14 +12,13 @@
 //! loop itself, whose period is no longer than its moment.
 ghost use Rattle.std.specs.Prelude.{◌≡◌, ◌↔◌, ◌*◌, ◌+◌, ◌≤◌, ◌<◌, [], IfErr, IfOk, IsTrue, OnOk, MatchOption, length, replicate};
 ghost use Rattle.sd_base.specs.declared.limits.TheConstants.{STARTS};
-ghost use Rattle.sd_base.specs.Schedules.{HasInputs};
-ghost use Rattle.sd_base.specs.SelfTimed.{IsEvent, shape_at, starts_by};
-ghost use Rattle.sd_base.specs.Untimed.{IsLive};
+ghost use Rattle.sd_base.specs.SelfTimed.{shape_at, starts_by};
 ghost use Rattle.selftimed.specs.Fingerprints.{running_fingerprint_of};
 ghost use Rattle.selftimed.specs.declared.engine.Stage.TheVariants.{Fresh, Running};
 ghost use Rattle.loops.specs.LoopAnswers.{IsRunRefusal};
 ghost use Rattle.loops.specs.declared.error.RunError.TheVariants.{StatesSpent, TooManyStarts};
 ghost use Rattle.event_loops.specs.inside.Fingerprinting.{AreFingerprints};
+ghost use Rattle.event_loops.specs.inside.Going.{IsAtEvent, NeverStops};
 ghost use Rattle.event_loops.specs.inside.Tracing.{AreAllowed, IsTrace};
 ghost use Rattle.event_loops.specs.inside.Searching.{IsPair, IsCheckpoint, IsWatch, IsLast, NoneSoon};
 
@@ -90,8 +89,7 @@ pub(crate) fn find_pair<F: Firing>(
     trace: &mut Trace,
     states: u64,
 ) -> Result<Pair, RunError>
-    requires live { IsLive (F.net engine.old.net.now) }
-    requires inputs { HasInputs (F.net engine.old.net.now) }
+    requires runs { NeverStops (F.net engine.old.net.now) }
     requires fresh { engine.old.stage ≡ Fresh }
     requires most { engine.old.most ≡ 4 * STARTS }
     requires some { 1 ≤ states }
@@ -138,8 +136,7 @@ fn search_allowed<F: Firing>(
     fingerprints: &mut Vec<u32>,
     states: u64,
 ) -> Result<Option<Pair>, RunError>
-    requires live { IsLive (F.net engine.old.net.now) }
-    requires inputs { HasInputs (F.net engine.old.net.now) }
+    requires runs { NeverStops (F.net engine.old.net.now) }
     requires fresh { engine.old.stage ≡ Fresh }
     requires most { engine.old.most ≡ 4 * STARTS }
     requires some { 1 ≤ states }
@@ -163,8 +160,7 @@ fn search_allowed<F: Firing>(
 
 /// What the shapes after one are compared with: with this one at first.
 fn watch_from<F: Firing>(alloc: Global, engine: &Engine<F>) -> Result<Watch, NoMemory>
-    requires running { engine.now.stage ≡ Running }
-    requires event { IsEvent (F.net engine.now.net.now) engine.now.moment }
+    requires { IsAtEvent (F.net engine.now.net.now) engine.now.stage engine.now.moment }
     ensures { IfOk result (IsWatch (F.net engine.now.net.now) (engine.now.moment + 1)) }
 {
     let round = starts_of_round(engine.net);
@@ -182,8 +178,7 @@ fn search_after<F: Firing>(
     watch: &mut Watch,
     states: u64,
 ) -> Result<Option<Pair>, RunError>
-    requires live { IsLive (F.net engine.old.net.now) }
-    requires inputs { HasInputs (F.net engine.old.net.now) }
+    requires runs { NeverStops (F.net engine.old.net.now) }
     requires running { engine.old.stage ≡ Running }
     requires first { engine.old.moment ≡ 0 }
     requires most { engine.old.most ≡ 4 * STARTS }
@@ -222,8 +217,7 @@ fn search_after<F: Firing>(
 /// shape, mostly constant if their tokens differ from its, and linear in the actors if the running firings do.
 #[inline(always)]
 fn pair_with<F: Firing>(engine: &Engine<F>, watch: &Watch) -> Option<Pair>
-    requires running { engine.now.stage ≡ Running }
-    requires event { IsEvent (F.net engine.now.net.now) engine.now.moment }
+    requires stands { IsAtEvent (F.net engine.now.net.now) engine.now.stage engine.now.moment }
     requires watch { IsWatch (F.net engine.now.net.now) engine.now.moment watch.now }
     ensures { MatchOption result (IsWatch (F.net engine.now.net.now) (engine.now.moment + 1) watch.now) (IsPair (F.net engine.now.net.now)) }
 {
@@ -237,8 +231,7 @@ fn pair_with<F: Firing>(engine: &Engine<F>, watch: &Watch) -> Option<Pair>
 /// What `pair_with` finds where the tokens may be those of a checkpoint: told by the running firings first.
 #[inline(never)]
 fn pair_of_alike<F: Firing>(engine: &Engine<F>, watch: &Watch) -> Option<Pair>
-    requires running { engine.now.stage ≡ Running }
-    requires event { IsEvent (F.net engine.now.net.now) engine.now.moment }
+    requires stands { IsAtEvent (F.net engine.now.net.now) engine.now.stage engine.now.moment }
     requires watch { IsWatch (F.net engine.now.net.now) engine.now.moment watch.now }
     ensures { MatchOption result (IsWatch (F.net engine.now.net.now) (engine.now.moment + 1) watch.now) (IsPair (F.net engine.now.net.now)) }
 {
@@ -267,8 +260,7 @@ fn renew<F: Firing>(
     watch: &mut Watch,
     round: u64,
 ) -> Result<(), NoMemory>
-    requires running { engine.now.stage ≡ Running }
-    requires event { IsEvent (F.net engine.now.net.now) engine.now.moment }
+    requires stands { IsAtEvent (F.net engine.now.net.now) engine.now.stage engine.now.moment }
     requires watch { IsWatch (F.net engine.now.net.now) (engine.now.moment + 1) watch.old }
     ensures { OnOk result (IsWatch (F.net engine.now.net.now) (engine.now.moment + 1) watch.new) }
 {
@@ -286,8 +278,7 @@ fn put_checkpoint<F: Firing>(
     watch: &mut Watch,
     round: u64,
 ) -> Result<(), NoMemory>
-    requires running { engine.now.stage ≡ Running }
-    requires event { IsEvent (F.net engine.now.net.now) engine.now.moment }
+    requires stands { IsAtEvent (F.net engine.now.net.now) engine.now.stage engine.now.moment }
     requires watch { IsWatch (F.net engine.now.net.now) (engine.now.moment + 1) watch.old }
     ensures watch { OnOk result (IsWatch (F.net engine.now.net.now) (engine.now.moment + 1) watch.new) }
     ensures last { OnOk result (watch.new.last.moment ≡ engine.now.moment) }
@@ -319,8 +310,7 @@ fn checkpoint_of<F: Firing>(
     engine: &Engine<F>,
     round: u64,
 ) -> Result<Checkpoint, NoMemory>
-    requires running { engine.now.stage ≡ Running }
-    requires event { IsEvent (F.net engine.now.net.now) engine.now.moment }
+    requires { IsAtEvent (F.net engine.now.net.now) engine.now.stage engine.now.moment }
     ensures moment { IfOk result (λ c. c.moment ≡ engine.now.moment) }
     ensures checkpoint { IfOk result (IsCheckpoint (F.net engine.now.net.now)) }
 {
@@ -372,8 +362,7 @@ fn search_on<F: Firing>(
     engine: &mut Engine<F>,
     checkpoint: &Checkpoint,
 ) -> Result<Option<Pair>, NoMemory>
-    requires live { IsLive (F.net engine.old.net.now) }
-    requires inputs { HasInputs (F.net engine.old.net.now) }
+    requires runs { NeverStops (F.net engine.old.net.now) }
     requires running { engine.old.stage ≡ Running }
     requires checkpoint { IsCheckpoint (F.net engine.old.net.now) checkpoint.now }
     requires here { engine.old.moment ≡ checkpoint.now.moment }

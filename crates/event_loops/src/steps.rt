@@ -1,11 +1,9 @@
 //! Steps of engines of live nets.
 ghost use Rattle.std.specs.Prelude.{◌≡◌, ℕ, ◌≤◌, ◌⊎◌, IfOk, OnOk};
-ghost use Rattle.sd_base.specs.Schedules.{HasInputs};
 ghost use Rattle.sd_base.specs.SelfTimed.{starts_by};
-ghost use Rattle.sd_base.specs.Untimed.{IsLive};
 ghost use Rattle.selftimed.specs.declared.engine.Stage.TheVariants.{Fresh, Running};
 ghost use Rattle.selftimed.specs.Moves.{ComesNext};
-ghost use Rattle.event_loops.specs.inside.Going.{GoesOn};
+ghost use Rattle.event_loops.specs.inside.Going.{GoesOn, NeverStops};
 
 use firing::Firing;
 use sd_base::NoMemory;
@@ -13,8 +11,7 @@ use selftimed::{Engine, Move};
 
 /// Goes to the next event, which every live net has, and tells whether its starts are within the bound.
 pub(crate) fn go_on<F: Firing>(engine: &mut Engine<F>) -> Result<bool, NoMemory>
-    requires live { IsLive (F.net engine.old.net.now) }
-    requires inputs { HasInputs (F.net engine.old.net.now) }
+    requires runs { NeverStops (F.net engine.old.net.now) }
     requires stage { (engine.old.stage ≡ Fresh) ⊎ (engine.old.stage ≡ Running) }
     ensures net { engine.new.net ≡ engine.old.net }
     ensures most { engine.new.most ≡ engine.old.most }
@@ -29,8 +26,7 @@ pub(crate) fn go_on<F: Firing>(engine: &mut Engine<F>) -> Result<bool, NoMemory>
 
 /// Goes to an event whose starts are known to be within the bound.
 pub(crate) fn next_event<F: Firing>(engine: &mut Engine<F>) -> Result<(), NoMemory>
-    requires live { IsLive (F.net engine.old.net.now) }
-    requires inputs { HasInputs (F.net engine.old.net.now) }
+    requires runs { NeverStops (F.net engine.old.net.now) }
     requires stage { (engine.old.stage ≡ Fresh) ⊎ (engine.old.stage ≡ Running) }
     requires few { (t : ℕ) → ComesNext (F.net engine.old.net.now) engine.old.stage engine.old.moment t → starts_by (F.net engine.old.net.now) t ≤ engine.old.most }
     ensures net { engine.new.net ≡ engine.old.net }

@@ -1,5 +1,5 @@
 //! How the answers of a level become members.
-ghost use Rattle.std.specs.Prelude.{◌≡◌, ◌+◌, ◌≤◌, ◌⊎◌, ◌++◌, ℕ, [], ◌∷◌, All, Option, List, IfErr, IfOk, OnOk, length, map, Contains};
+ghost use Rattle.std.specs.Prelude.{◌≡◌, ◌+◌, ◌⊎◌, ◌++◌, ℕ, [], ◌∷◌, All, Option, List, IfErr, IfOk, OnOk, length, map, Contains};
 ghost use Rattle.sd_base.specs.declared.limits.Limits.{Limits as SomeLimits};
 ghost use Rattle.sd_base.specs.Net.{Net};
 ghost use Rattle.pareto_front.specs.declared.point.Point.{Point as APoint};

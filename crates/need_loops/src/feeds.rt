@@ -4,8 +4,6 @@ ghost use Rattle.sd_base.specs.Ranges.{COUNT_BOUND, FIRING_BOUND};
 ghost use Rattle.sd_base.specs.declared.limits.TheConstants.{NET_TOKENS, RATE};
 ghost use Rattle.sd_base.specs.Net.{channel_at};
 ghost use Rattle.sd_base.specs.Schedules.{phases_at};
-ghost use Rattle.firing.specs.declared.sums.Port.TheVariants.{Taken};
-ghost use Rattle.firing.specs.Wiring.{IsListed};
 ghost use Rattle.need_loops.specs.inside.Needing.{Advances, AreNext, Feeds, IsNextOf, Paces};
 
 use firing::{Firing, Wired, know_laws};
@@ -78,19 +76,15 @@ impl Feed {
 }
 
 impl NextFiring {
-    /// What the first firing of an actor needs, which these channels lead into.
-    fn new<F: Firing>(
-        alloc: Global,
-        net: &F,
-        actor: u32,
-        inputs: &[u32],
-    ) -> Result<NextFiring, NoMemory>
-        requires actor { actor < length (F.net net.now).times }
-        requires single { (a : ℕ) → a < length (F.net net.now).times → phases_at (F.net net.now) a ≡ 1 }
-        requires listed { IsListed (F.net net.now) Taken actor inputs.now }
-        ensures { IfOk result (IsNextOf (F.net net.now) actor 0) }
+    /// What the first firing of an actor needs.
+    fn new<F: Firing>(alloc: Global, wired: &Wired<F>, actor: u32) -> Result<NextFiring, NoMemory>
+        requires actor { actor < length (F.net wired.now.net.now).times }
+        requires single { (a : ℕ) → a < length (F.net wired.now.net.now).times → phases_at (F.net wired.now.net.now) a ≡ 1 }
+        ensures { IfOk result (IsNextOf (F.net wired.now.net.now) actor 0) }
     {
+        let net = wired.net;
         know_laws(net);
+        let inputs = wired.inputs_of(actor);
         let mut pause = 0;
         let mut feeds = Vec::with_capacity(alloc, inputs.len())?;
         for channel in inputs {
@@ -146,8 +140,7 @@ pub(crate) fn first_firings<F: Firing>(
     let net = wired.net;
     let mut firings = Vec::with_capacity(alloc, net.actors() as usize)?;
     for actor in 0..net.actors() {
-        let inputs = wired.inputs_of(actor);
-        firings.push(NextFiring::new(alloc, net, actor, inputs)?)?;
+        firings.push(NextFiring::new(alloc, wired, actor)?)?;
     }
     Ok(firings)
 }

@@ -29,12 +29,10 @@ fn next_start<F: Firing>(
     next: &NextFiring,
     starts: &[Rows<u64>],
     actor: u32,
-    until: u64,
 ) -> Option<u64>
     requires actor { actor < length (F.net net.now).times }
-    requires due { AreDue (F.net net.now) until starts.now }
+    requires due { (until : ℕ) × (until ≤ MOMENT_BOUND) × AreDue (F.net net.now) until starts.now }
     requires next { IsNextOf (F.net net.now) actor (count_of starts.now actor) next.now }
-    requires soon { until ≤ MOMENT_BOUND }
     ensures { MatchOption result (IsStuck (F.net net.now) starts.now actor) (StartsNext (F.net net.now) starts.now actor) }
 {
     know_laws(net);
@@ -79,7 +77,7 @@ fn extend<F: Firing>(
 {
     let before = starts[actor as usize].len() as u64;
     for firing in before..most {
-        match next_start(net, next, starts, actor, until) {
+        match next_start(net, next, starts, actor) {
             Some(start) if start <= until => {
                 starts[actor as usize].push(start)?;
                 next.advance(net, actor, firing);
@@ -194,7 +192,7 @@ pub(crate) fn are_whole<F: Firing>(
 {
     know_laws(net);
     for actor in 0..net.actors() {
-        if let Some(start) = next_start(net, &firings[actor as usize], starts, actor, until) {
+        if let Some(start) = next_start(net, &firings[actor as usize], starts, actor) {
             if start <= until {
                 return false;
             }

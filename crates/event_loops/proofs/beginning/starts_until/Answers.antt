@@ -7,8 +7,8 @@ use Rattle.event_loops.proofs.LiveEnginesGoOn.{first-few, running-few, running-w
 use Rattle.event_loops.proofs.StartsAddUp.{has-before, has-fewer, has-next, starts-are}
 use Rattle.event_loops.proofs.beginning.starts_until.Goals as goal
 
-pub next_event-requires-clause-inputs : goal.next_event-requires-clause-inputs
-next_event-requires-clause-inputs g c = rw c.in_ok-engine.ensures.net c.requires.inputs
+pub next_event-requires-clause-runs : goal.next_event-requires-clause-runs
+next_event-requires-clause-runs g c = rw c.in_ok-engine.ensures.net (record { live = c.requires.live; inputs = c.requires.inputs })
 
 pub next_event-requires-clause-few : goal.next_event-requires-clause-few
 next_event-requires-clause-few g c =
@@ -36,8 +36,8 @@ events-init g c =
       within = omega arith;
     }
 
-pub next_event-requires-in-events-clause-inputs : goal.next_event-requires-in-events-clause-inputs
-next_event-requires-in-events-clause-inputs g c = rw c.events.invariant.net c.requires.inputs
+pub next_event-requires-in-events-clause-runs : goal.next_event-requires-in-events-clause-runs
+next_event-requires-in-events-clause-runs g c = rw c.events.invariant.net (record { live = c.requires.live; inputs = c.requires.inputs })
 
 pub next_event-requires-in-events-clause-few : goal.next_event-requires-in-events-clause-few
 next_event-requires-in-events-clause-few g c =

@@ -3,8 +3,14 @@ use Rattle.event_loops.specs.inside.Searching.{IsPair}
 use Rattle.event_loops.specs.inside.Tracing.{IsAllowed}
 use Rattle.event_loops.proofs.by_events.loop_by_events.Goals as goal
 
-pub find_pair-requires-clause-inputs : goal.find_pair-requires-clause-inputs
-find_pair-requires-clause-inputs g c = rw c.in_ok-lead.ensures.net c.requires.inputs
+pub find_pair-requires-clause-runs : goal.find_pair-requires-clause-runs
+find_pair-requires-clause-runs g c = rw c.in_ok-lead.ensures.net (record { live = c.requires.live; inputs = c.requires.inputs })
+
+pub repeated_loop-requires-clause-runs : goal.repeated_loop-requires-clause-runs
+repeated_loop-requires-clause-runs g c = record { live = c.requires.live; inputs = c.requires.inputs }
+
+pub repeated_loop-requires-clause-ready : goal.repeated_loop-requires-clause-ready
+repeated_loop-requires-clause-ready g c = record { fresh = c.in_ok-restart.ensures.stage; most_is = c.in_ok-restart.ensures.most }
 
 pub traced_loop-requires-clause-traced : goal.traced_loop-requires-clause-traced
 traced_loop-requires-clause-traced g c =

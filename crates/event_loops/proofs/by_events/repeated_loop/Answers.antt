@@ -5,8 +5,11 @@ use Rattle.loops.specs.StartRows.{AreStarts}
 use Rattle.event_loops.specs.inside.Searching.{IsRepeat}
 use Rattle.event_loops.proofs.by_events.repeated_loop.Goals as goal
 
-pub first_repeat-requires-clause-inputs : goal.first_repeat-requires-clause-inputs
-first_repeat-requires-clause-inputs g c = rw c.requires.net c.requires.inputs
+pub first_repeat-requires-clause-runs : goal.first_repeat-requires-clause-runs
+first_repeat-requires-clause-runs g c = rw c.requires.net c.requires.runs
+
+pub first_repeat-requires-clause-trail : goal.first_repeat-requires-clause-trail
+first_repeat-requires-clause-trail g c = record { fresh = c.in_ok-trail.ensures.stage; most_is = c.in_ok-trail.ensures.most }
 
 pub first_repeat-requires-clause-period : goal.first_repeat-requires-clause-period
 first_repeat-requires-clause-period g c = rw c.requires.net c.requires.period
@@ -28,5 +31,5 @@ returns-clause-found g c =
       loop = c.in_ok-table.ensures.table;
       number = rw end repeat.number;
       few = rw end repeat.few;
-      rate = table-rate (g.F.Firing.net c.args.wired.now.net.now) (g.met.F.Firing.lawful c.args.wired.now.net.now) c.requires.inputs c.in_ok-table.table.entry c.in_ok-table.table.period c.in_ok-table.table.rounds c.in_ok-table.table.before c.in_ok-table.table.starts c.in_ok-table.ensures.table;
+      rate = table-rate (g.F.Firing.net c.args.wired.now.net.now) (g.met.F.Firing.lawful c.args.wired.now.net.now) c.requires.runs.inputs c.in_ok-table.table.entry c.in_ok-table.table.period c.in_ok-table.table.rounds c.in_ok-table.table.before c.in_ok-table.table.starts c.in_ok-table.ensures.table;
     }

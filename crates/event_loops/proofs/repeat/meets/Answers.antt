@@ -2,8 +2,8 @@ use Rattle.std.proofs.lemmas.Bool.{false≢true}
 use Rattle.event_loops.proofs.FirstRepeatFound.{follows-none}
 use Rattle.event_loops.proofs.repeat.meets.Goals as goal
 
-pub follow-requires-clause-inputs : goal.follow-requires-clause-inputs
-follow-requires-clause-inputs g c = rw c.requires.net c.requires.inputs
+pub follow-requires-clause-runs : goal.follow-requires-clause-runs
+follow-requires-clause-runs g c = rw c.requires.net c.requires.runs
 
 pub returns-then-not-branch-clause-met : goal.returns-then-not-branch-clause-met
 returns-then-not-branch-clause-met g c =

@@ -10,10 +10,10 @@ use Rattle.event_loops.proofs.search.search_allowed.Goals as goal
 pub returns-then-not-branch-clause-refused : goal.returns-then-not-branch-clause-refused
 returns-then-not-branch-clause-refused g c =
     let goes = rw c.requires.fresh at (rw c.requires.most at (rw c.if-not-branch.true at c.in_ok-go_on.ensures.goes)) in
-    many-first (g.F.Firing.net c.args.engine.now.net.now) (g.met.F.Firing.lawful c.args.engine.now.net.now) c.requires.inputs c.args.states goes.0 goes.1 c.requires.some (omega (arith, goes.2))
+    many-first (g.F.Firing.net c.args.engine.now.net.now) (g.met.F.Firing.lawful c.args.engine.now.net.now) c.requires.runs.inputs c.args.states goes.0 goes.1 c.requires.some (omega (arith, goes.2))
 
 pub add-requires-clause-inputs : goal.add-requires-clause-inputs
-add-requires-clause-inputs g c = rw c.go_on.ensures.net c.requires.inputs
+add-requires-clause-inputs g c = rw c.go_on.ensures.net c.requires.runs.inputs
 
 pub add-requires-clause-before : goal.add-requires-clause-before
 add-requires-clause-before g c =
@@ -21,8 +21,13 @@ add-requires-clause-before g c =
     let before : IsTraceBefore (g.F.Firing.net c.args.engine.now.net.now) c.go_on.new.engine.moment c.args.trace.now.moments.items c.args.trace.now.starts.items = (Fresh, 0, (c.requires.no_events, c.requires.no_starts), goes.1) in
     rw c.go_on.ensures.net before
 
-pub search_after-requires-clause-inputs : goal.search_after-requires-clause-inputs
-search_after-requires-clause-inputs g c = rw c.go_on.ensures.net c.requires.inputs
+pub watch_from-requires : goal.watch_from-requires
+watch_from-requires g c =
+    let goes = rw c.requires.fresh at (rw c.if-not-branch.false at c.in_ok-go_on.ensures.goes) in
+    rw c.go_on.ensures.net (record { running = goes.0; event = inl goes.1 })
+
+pub search_after-requires-clause-runs : goal.search_after-requires-clause-runs
+search_after-requires-clause-runs g c = rw c.go_on.ensures.net c.requires.runs
 
 pub search_after-requires-clause-first : goal.search_after-requires-clause-first
 search_after-requires-clause-first g c = let goes = rw c.requires.fresh at (rw c.if-not-branch.false at c.in_ok-go_on.ensures.goes) in goes.1

@@ -6,8 +6,8 @@ use Rattle.loops.proofs.RanksRise.{starts-rise}
 use Rattle.event_loops.proofs.KeptShapesFindPairs.{none-yet, none-more, first-since, none-spent, none-many}
 use Rattle.event_loops.proofs.search.search_on.Goals as goal
 
-pub go_on-requires-clause-inputs : goal.go_on-requires-clause-inputs
-go_on-requires-clause-inputs g c = rw c.events.invariant.net c.requires.inputs
+pub go_on-requires-clause-runs : goal.go_on-requires-clause-runs
+go_on-requires-clause-runs g c = rw c.events.invariant.net c.requires.runs
 
 pub events-init : goal.events-init
 events-init g c = record {
@@ -24,7 +24,7 @@ returns-then-not-branch g c =
     let goes = rw c.events.invariant.running at (rw c.events.invariant.most at (rw c.events.invariant.net at (rw c.if-not-branch.true at c.in_ok-go_on.ensures.goes))) in
     record {
       net = c.go_on.ensures.net ∙ c.events.invariant.net;
-      found = none-spent (g.F.Firing.net c.args.engine.now.net.now) (g.met.F.Firing.lawful c.args.engine.now.net.now) c.requires.inputs c.args.checkpoint.now.moment c.events.engine.moment goes.0 c.args.engine.now.most c.events.invariant.none goes.1 goes.2;
+      found = none-spent (g.F.Firing.net c.args.engine.now.net.now) (g.met.F.Firing.lawful c.args.engine.now.net.now) c.requires.runs.inputs c.args.checkpoint.now.moment c.events.engine.moment goes.0 c.args.engine.now.most c.events.invariant.none goes.1 goes.2;
     }
 
 pub returns-then-stands_at : goal.returns-then-stands_at
@@ -40,7 +40,7 @@ returns-then-stands_at g c =
         start = c.requires.checkpoint.event;
         end = next.event;
         same = same;
-        first = λ u event after before. first-since (g.F.Firing.net c.args.engine.now.net.now) (g.met.F.Firing.lawful c.args.engine.now.net.now) c.requires.inputs c.args.checkpoint.now.moment c.events.engine.moment c.go_on.new.engine.moment u c.events.invariant.none next event after before;
+        first = λ u event after before. first-since (g.F.Firing.net c.args.engine.now.net.now) (g.met.F.Firing.lawful c.args.engine.now.net.now) c.requires.runs.inputs c.args.checkpoint.now.moment c.events.engine.moment c.go_on.new.engine.moment u c.events.invariant.none next event after before;
       });
     }
 
@@ -56,7 +56,7 @@ events-preserved g c =
       running = goes.0;
       ahead = omega (arith, next.later, c.events.invariant.ahead);
       event = next.event;
-      none = none-more (g.F.Firing.net c.args.engine.now.net.now) (g.met.F.Firing.lawful c.args.engine.now.net.now) c.requires.inputs c.args.checkpoint.now.moment c.events.engine.moment c.go_on.new.engine.moment c.events.invariant.none next other;
+      none = none-more (g.F.Firing.net c.args.engine.now.net.now) (g.met.F.Firing.lawful c.args.engine.now.net.now) c.requires.runs.inputs c.args.checkpoint.now.moment c.events.engine.moment c.go_on.new.engine.moment c.events.invariant.none next other;
     }
 
 pub overflow_sub-starts : goal.overflow_sub-starts
@@ -64,7 +64,7 @@ overflow_sub-starts g c =
     let goes = rw c.events.invariant.running at (rw c.events.invariant.net at (rw c.if-not-branch.false at c.in_ok-go_on.ensures.goes)) in
     let next : IsNextEvent (g.F.Firing.net c.args.engine.now.net.now) c.events.engine.moment c.go_on.new.engine.moment = goes.1 in
     let here : c.starts.result ≡ starts_by (g.F.Firing.net c.args.engine.now.net.now) c.go_on.new.engine.moment = rw c.events.invariant.net at (rw c.go_on.ensures.net at c.starts.ensures) in
-    omega (arith, here, c.requires.checkpoint.starts, starts-rise (g.F.Firing.net c.args.engine.now.net.now) (g.met.F.Firing.lawful c.args.engine.now.net.now) c.requires.inputs c.args.checkpoint.now.moment c.go_on.new.engine.moment (omega (arith, next.later, c.events.invariant.ahead)))
+    omega (arith, here, c.requires.checkpoint.starts, starts-rise (g.F.Firing.net c.args.engine.now.net.now) (g.met.F.Firing.lawful c.args.engine.now.net.now) c.requires.runs.inputs c.args.checkpoint.now.moment c.go_on.new.engine.moment (omega (arith, next.later, c.events.invariant.ahead)))
 
 pub returns-then-starts-checkpoint-gt-STARTS : goal.returns-then-starts-checkpoint-gt-STARTS
 returns-then-starts-checkpoint-gt-STARTS g c =
@@ -76,6 +76,6 @@ returns-then-starts-checkpoint-gt-STARTS g c =
     let many : starts_by (g.F.Firing.net c.args.engine.now.net.now) c.args.checkpoint.now.moment + 4000000 < starts_by (g.F.Firing.net c.args.engine.now.net.now) c.go_on.new.engine.moment = omega (arith, here, c.requires.checkpoint.starts, c.if-starts-checkpoint-gt-STARTS.true) in
     record {
       net = c.go_on.ensures.net ∙ c.events.invariant.net;
-      found = none-many (g.F.Firing.net c.args.engine.now.net.now) (g.met.F.Firing.lawful c.args.engine.now.net.now) c.requires.inputs c.args.checkpoint.now.moment c.go_on.new.engine.moment c.args.engine.now.most
-          (none-more (g.F.Firing.net c.args.engine.now.net.now) (g.met.F.Firing.lawful c.args.engine.now.net.now) c.requires.inputs c.args.checkpoint.now.moment c.events.engine.moment c.go_on.new.engine.moment c.events.invariant.none next other) many;
+      found = none-many (g.F.Firing.net c.args.engine.now.net.now) (g.met.F.Firing.lawful c.args.engine.now.net.now) c.requires.runs.inputs c.args.checkpoint.now.moment c.go_on.new.engine.moment c.args.engine.now.most
+          (none-more (g.F.Firing.net c.args.engine.now.net.now) (g.met.F.Firing.lawful c.args.engine.now.net.now) c.requires.runs.inputs c.args.checkpoint.now.moment c.events.engine.moment c.go_on.new.engine.moment c.events.invariant.none next other) many;
     }

@@ -3,6 +3,9 @@ use Rattle.need_loops.proofs.DueRowsAreSelfTimed.{IsDone, next-at, whole}
 use Rattle.need_loops.proofs.needs.are_whole.Goals as goal
 use Rattle.need_loops.proofs.needs.are_whole.Goals.{in-Some+else-start-until, in_default}
 
+pub next_start-requires-clause-due : goal.next_start-requires-clause-due
+next_start-requires-clause-due g c = (c.args.until, c.requires.soon, c.requires.due)
+
 pub next_start-requires-clause-next : goal.next_start-requires-clause-next
 next_start-requires-clause-next g c =
     rw c.index-firings-actor.is (next-at (g.F.Firing.net c.args.net.now) c.args.starts.now c.args.firings.now c.loop-actor.actor c.index-firings-actor.result (omega arith) c.requires.next)
