@@ -6,10 +6,9 @@ point; for scenarios the time and memory for the worst rate. The distributions t
 `--distributions` with which the program ends.
 """
 import argparse
-import subprocess
 from typing import Optional
 
-from programs import ANALYSER, UNKNOWN, example, measured, memory, program
+from programs import ANALYSER, UNKNOWN, distributions, example, measured, memory, program
 from tables import list_rows
 
 GRAPHS = [
@@ -37,24 +36,9 @@ def path(name: str) -> str:
     return example(f"{name}.xml")
 
 
-def storage(built: str, name: str, limit: int, most: int) -> list[str]:
-    """The words for a trade-off of at most so many distributions."""
-    return [built, "--algo", "storage", "--graph", path(name), "--no-overlap", "--limit", str(limit), "--distributions", str(most)]
-
-
-def ends(words: list[str]) -> bool:
-    return subprocess.run(words, capture_output=True).returncode == 0
-
-
-def distributions(built: str, name: str, limit: int) -> Optional[int]:
-    """The least number of distributions with which an exploration ends; None where it ends for another cause."""
-    if not ends(storage(built, name, limit, MOST)):
-        return None
-    low, high = 1, MOST
-    while low < high:
-        middle = (low + high) // 2
-        low, high = (low, middle) if ends(storage(built, name, limit, middle)) else (middle + 1, high)
-    return low
+def storage(built: str, name: str, limit: int) -> list[str]:
+    """The words for a trade-off."""
+    return [built, "--algo", "storage", "--graph", path(name), "--no-overlap", "--limit", str(limit)]
 
 
 def fastest(text: bytes) -> tuple[int, Optional[str]]:
@@ -73,11 +57,10 @@ def rate_time(built: str, name: str, buffers: Optional[str]) -> str:
 
 
 def graph_row(built: str, name: str, limit: int) -> str:
-    found = measured(storage(built, name, limit, MOST))
+    found = measured([*storage(built, name, limit), "--distributions", str(MOST)])
     points, buffers = fastest(found.ended.stdout)
     took = rate_time(built, name, buffers)
-    number = distributions(built, name, limit)
-    shown = UNKNOWN if number is None else f"{number:,}"
+    shown = distributions(storage(built, name, limit), MOST)
     return f"| {name} | {limit:,} | {points} | {shown} | {found.milliseconds} | {memory(found.words):.0f} | {took} |"
 
 

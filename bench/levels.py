@@ -1,6 +1,6 @@
-"""What cores gain on the decoder's trade-off, and on levels of the same sizes that are nothing but arithmetic.
+"""What cores gain on the decoder's trade-off with a certificate, and on levels of the same sizes that are nothing but arithmetic.
 
-A pair is a run on one core, each in turn, and a run on all. A row is the least and the middle wall-clock time on one core and on all,
+With a certificate a trade-off is explored by levels; without one two distributions at most are evaluated side by side. A pair is a run on one core, each in turn, and a run on all. A row is the least and the middle wall-clock time on one core and on all,
 and the middle of what the pairs gain. The sizes of the levels are read off a certificate of the program; a job of theirs, which the
 program `bench` runs, takes as long as the row says. The longer the jobs, the less threads cost beside them.
 """
@@ -44,14 +44,12 @@ def seconds(words: Sequence[str], on: set[int]) -> float:
     return time.perf_counter() - begun
 
 
-def sizes(path: str) -> list[int]:
+def sizes(words: Sequence[str], certificate: str) -> list[int]:
     """How many members each level has. Its members have one storage, and channels there hold tokens of size 1."""
-    with tempfile.TemporaryDirectory() as folder:
-        name = os.path.join(folder, "certificate")
-        subprocess.run([path, *WORDS, "--certificate", name], stdout=subprocess.DEVNULL, check=True)
-        with open(name, encoding="utf-8") as lines:
-            words = [line.split() for line in lines]
-    totals = [sum(map(int, line[1:])) for line in words if line[0] == "member"]
+    subprocess.run(words, stdout=subprocess.DEVNULL, check=True)
+    with open(certificate, encoding="utf-8") as lines:
+        listed = [line.split() for line in lines]
+    totals = [sum(map(int, line[1:])) for line in listed if line[0] == "member"]
     return [len(list(level)) for _, level in itertools.groupby(totals)]
 
 
@@ -62,9 +60,15 @@ def turns_in(path: str, microseconds: int) -> int:
 
 
 def run(asked: argparse.Namespace) -> None:
-    path, levels, every = program(ANALYSER), program("bench"), cores()
-    jobs = [str(size) for size in sizes(path)]
-    cases = {DECODER: [path, *WORDS]}
+    with tempfile.TemporaryDirectory() as folder:
+        run_with(asked, os.path.join(folder, "certificate"))
+
+
+def run_with(asked: argparse.Namespace, certificate: str) -> None:
+    levels, every = program("bench"), cores()
+    decoder = [program(ANALYSER), *WORDS, "--certificate", certificate]
+    jobs = [str(size) for size in sizes(decoder, certificate)]
+    cases = {DECODER: decoder}
     cases.update({row_of(most): [levels, "levels", str(turns_in(levels, most)), *jobs] for most in MICROSECONDS})
     times: dict[str, list[tuple[float, float]]] = {name: [] for name in cases}
     for number in range(asked.pairs):

@@ -91,6 +91,24 @@ def memory(words: Sequence[str]) -> float:
     return kilobytes / 1e3
 
 
+def distributions(words: Sequence[str], most: int) -> str:
+    """The least number of `--distributions` with which a search ends, as a table shows it, if it is no more than `most`."""
+
+    def ends(number: int) -> bool:
+        return subprocess.run([*words, "--distributions", str(number)], capture_output=True).returncode == 0
+
+    high = 1
+    while not ends(high):
+        if high == most:
+            return UNKNOWN
+        high = min(2 * high, most)
+    low = high // 2 + 1
+    while low < high:
+        middle = (low + high) // 2
+        low, high = (low, middle) if ends(middle) else (middle + 1, high)
+    return f"{high:,}"
+
+
 def millions(words: Sequence[str]) -> str:
     """The millions of instructions of a run, as a table shows them."""
     count = instructions(words)

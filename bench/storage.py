@@ -1,7 +1,8 @@
 """What the whole trade-off between storage and rate costs.
 
 Runs the program on examples, each up to a limit, and on drawn graphs. A row is the least wall-clock time of five runs on all cores
-and on one core, the most memory of a run, the millions of instructions of one, where valgrind is there, and the text's first line.
+and on one core, the most memory of a run, the millions of instructions of one, where valgrind is there, how many distributions it
+evaluates or, with a certificate, finds, and the text's first line.
 """
 import argparse
 import os
@@ -11,7 +12,7 @@ import tempfile
 from math import gcd
 
 import graphs
-from programs import ALWAYS, ANALYSER, example, measured, program, written
+from programs import ALWAYS, ANALYSER, distributions, example, measured, program, written
 from tables import Table, list_rows
 
 CERTIFIED = "with a certificate"
@@ -25,6 +26,8 @@ BRANCHING = {
     "drawn_40_60_1.xml": (1, 40, 60, 2),
 }
 """The graphs without cycles that are drawn: by file the words of `branching`."""
+MOST = 1_000_000
+"""The most distributions that can be allowed."""
 WITHOUT_END = ["--limit", "1000000000"]
 """The greatest limit: the trade-off ends where no memory buys more."""
 
@@ -32,7 +35,7 @@ CASES = [
     ("chain, 10", "chain.xml", ["--limit", "10"]),
     ("decoder, 8010", "h263_decoder.xml", ["--limit", "8010"]),
     ("converter, 60", "rate_converter.xml", ["--limit", "60"]),
-    (CERTIFIED, "rate_converter.xml", ["--limit", "60", "--distributions", "1000000"]),
+    (CERTIFIED, "rate_converter.xml", ["--limit", "60"]),
     ("woven, 169", WOVEN, ["--limit", "169"]),
     ("lte_receiver", "lte_receiver.xml", WITHOUT_END),
     ("drawn 20-28-2", "drawn_20_28_2.xml", WITHOUT_END),
@@ -88,7 +91,7 @@ def add_words(parser: argparse.ArgumentParser) -> None:
 def run(_: argparse.Namespace) -> None:
     path = program(ANALYSER)
     one_core = ["taskset", "-c", "0"] if shutil.which("taskset") else []
-    columns = [("graph, limit", -18), ("status", 6), ("bytes", 9), ("ms", 8), ("one core", 8), ("MB", 7), ("M instr.", 8)]
+    columns = [("graph, limit", -18), ("status", 6), ("bytes", 9), ("ms", 8), ("one core", 8), ("MB", 7), ("M instr.", 8), ("distributions", 13)]
     table = Table(columns, after="first line")
     with tempfile.TemporaryDirectory() as folder:
         paths = {name: written(folder, name, text.encode()) for name, text in drawn().items()}
@@ -96,6 +99,7 @@ def run(_: argparse.Namespace) -> None:
             words = [path, "--algo", "storage", "--graph", paths.get(file) or example(file), "--no-overlap", *options]
             if name == CERTIFIED:
                 words += ["--certificate", os.path.join(folder, "certificate")]
-            found, alone = measured(words), measured([*one_core, *words])
+            all_words = [*words, "--distributions", str(MOST)]
+            found, alone = measured(all_words), measured([*one_core, *all_words])
             table.row(name, found.status, found.bytes, found.milliseconds, alone.milliseconds, found.megabytes(), found.millions(ALWAYS),
-                      after=found.first_line)
+                      distributions(words, MOST), after=found.first_line)

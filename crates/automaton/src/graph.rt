@@ -1,4 +1,8 @@
 //! The timed graph of a file of scenarios.
+ghost use Rattle.std.specs.Prelude.{◌↔◌, IsTrue};
+ghost use Rattle.automaton.specs.SoundGraphs.{IsSound};
+ghost use Rattle.automaton.specs.CriticalCycles.{IsStart};
+
 use sd_base::Rows;
 
 /// An edge between two nodes: the stamp of the node that it enters is at least `weight` time units after that of the
@@ -23,4 +27,15 @@ pub struct TimedGraph {
     /// How many states there are.
     pub states: u32,
     pub edges: Rows<Edge>,
+}
+
+impl TimedGraph {
+    /// Whether a node is one of the initial state, where each walk begins.
+    pub fn is_start(&self, node: u32) -> bool
+        requires { IsSound self.now }
+        ensures { IsTrue result ↔ IsStart self.now node }
+    {
+        let first = self.initial * self.tokens;
+        first <= node && node < first + self.tokens
+    }
 }

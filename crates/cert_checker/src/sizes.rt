@@ -1,5 +1,6 @@
 //! How many lines the parts of a trade-off have.
-ghost use Rattle.std.specs.Prelude.{◌≡◌, ◌+◌, ◌≤◌, ◌^◌};
+ghost use Rattle.std.specs.Prelude.{◌≡◌, ◌+◌, ◌≤◌};
+ghost use Rattle.sd_base.specs.Ranges.{LENGTH_BOUND};
 ghost use Rattle.cert_text.specs.MemberLines.{cycle_at};
 ghost use Rattle.cert_checker.specs.StorageLines.{cycle_size, cycles_size, member_size, point_size, shown_size};
 ghost use Rattle.cert_checker.specs.inside.FirstFaults.{kept_number};
@@ -8,7 +9,7 @@ use cert_text::{LinkCycle, MemberLine, MemberShown, PointLine};
 
 fn cycle_size(cycle: &LinkCycle) -> u64
     ensures size { result ≡ cycle_size cycle.now }
-    ensures small { result ≤ 2 ^ 63 }
+    ensures small { result ≤ LENGTH_BOUND }
 {
     1 + cycle.steps.as_slice().len() as u64
 }
@@ -29,7 +30,7 @@ pub(crate) fn cycles_size(version: u32, cycles: &[LinkCycle]) -> u64
 
 fn shown_size(version: u32, cycles: &[LinkCycle], shown: &MemberShown) -> u64
     ensures size { result ≡ shown_size version cycles.now shown.now }
-    ensures small { result ≤ 2 ^ 63 + 1 }
+    ensures small { result ≤ LENGTH_BOUND + 1 }
 {
     match shown {
         MemberShown::Cycle { cycle, .. } => {
@@ -46,7 +47,7 @@ fn shown_size(version: u32, cycles: &[LinkCycle], shown: &MemberShown) -> u64
 /// The lines of a cycle by its number.
 fn listed_size(cycles: &[LinkCycle], number: u64) -> u64
     ensures size { result ≡ cycle_size (cycle_at cycles.now number) }
-    ensures small { result ≤ 2 ^ 63 }
+    ensures small { result ≤ LENGTH_BOUND }
 {
     match cycles.get(number as usize) {
         Some(cycle) => cycle_size(cycle),

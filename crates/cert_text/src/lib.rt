@@ -14,4 +14,4 @@ pub use certificates::{
 };
 pub use error::CertError;
 pub use reading::read_certificate;
-pub use writing::write_certificate;
+pub use writing::{write_certificate, write_within};

@@ -24,11 +24,12 @@ ghost use Rattle.cert_text.specs.Spelling.{lines_after, spelling};
 
 use crate::certificates::Certificate;
 use crate::error::CertError;
-use limit::keep_within;
+use limit::keep_below;
 use numbers::put_version;
 use rates::put_rate_certificate;
 use scenarios::put_scenario_certificate;
 use sd_base::Rows;
+use sd_base::limits::CERTIFICATE_BYTES;
 use std::alloc::Global;
 use trade_offs::put_storage_certificate;
 
@@ -49,8 +50,28 @@ pub fn write_certificate(
     ensures short { OnOk result (length (spelling version certificate.now) ≤ CERTIFICATE_BYTES) }
     ensures long { IfErr result (λ e. (e ≡ NoMemory) ⊎ ((e ≡ TooLong) × (CERTIFICATE_BYTES < length (spelling version certificate.now)))) }
 {
+    write_within(alloc, certificate, version, CERTIFICATE_BYTES)
+}
+
+/// The same, of which no more than so many bytes are allowed. Cost: as of `write_certificate`, whatever the limit.
+pub fn write_within(
+    alloc: Global,
+    certificate: &Certificate,
+    version: u32,
+    most: u64,
+) -> Result<Rows<u8>, CertError>
+    requires version { (version ≡ 1) ⊎ (version ≡ 2) }
+    requires spellable { IsSpellable certificate.now }
+    requires orderly { IsOrderly certificate.now }
+    requires most { most ≤ CERTIFICATE_BYTES }
+    ensures text { IfOk result (λ t. t ≡ spelling version certificate.now) }
+    ensures read { IfOk result (λ t. IsCertText t version certificate.now) }
+    ensures limits { OnOk result (IsWithinLimits certificate.now) }
+    ensures short { OnOk result (length (spelling version certificate.now) ≤ most) }
+    ensures long { IfErr result (λ e. (e ≡ NoMemory) ⊎ ((e ≡ TooLong) × (most < length (spelling version certificate.now)))) }
+{
     let text = text_of(alloc, certificate, version)?;
-    keep_within(&text)?;
+    keep_below(&text, most)?;
     Ok(bytes_of(text))
 }
 

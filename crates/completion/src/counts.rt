@@ -1,7 +1,7 @@
 //! By actor how many firings a way of needs has, and their time.
-ghost use Rattle.std.specs.Prelude.{◌≡◌, ℕ, ◌+◌, ◌*◌, ◌^◌, ◌<◌, ◌≤◌, IfOk, length, map, replicate, slice_set, sum};
+ghost use Rattle.std.specs.Prelude.{◌≡◌, ℕ, ◌+◌, ◌*◌, ◌<◌, ◌≤◌, IfOk, length, map, replicate, slice_set, sum};
 ghost use Rattle.completion.specs.Ways.{no_part, part_at};
-ghost use Rattle.sd_base.specs.Ranges.{PART_BOUND};
+ghost use Rattle.sd_base.specs.Ranges.{PART_BOUND, WAY_FIRING_BOUND, WAY_TIME_BOUND};
 
 use sd_base::NoMemory;
 use std::alloc::Global;
@@ -24,8 +24,8 @@ const NONE: Part = Part {
 impl Part {
     /// With so many times more what another part has.
     fn with_times(self, once: Part, times: u64) -> Part
-        requires few { self.firings + times * once.firings < 2 ^ 63 }
-        requires soon { self.time + times * once.time < 2 ^ 126 }
+        requires few { self.firings + times * once.firings < WAY_FIRING_BOUND }
+        requires soon { self.time + times * once.time < WAY_TIME_BOUND }
         ensures firings { result.firings ≡ self.firings + times * once.firings }
         ensures time { result.time ≡ self.time + times * once.time }
     {
@@ -50,8 +50,8 @@ pub(crate) fn no_parts(alloc: Global, actors: u32) -> Result<Vec<Part>, NoMemory
 /// Counts one more firing of an actor.
 pub(crate) fn count(parts: &mut [Part], actor: u32, time: u64)
     requires place { actor < length parts.old }
-    requires few { (part_at parts.old actor).firings + 1 < 2 ^ 63 }
-    requires soon { (part_at parts.old actor).time + time < 2 ^ 126 }
+    requires few { (part_at parts.old actor).firings + 1 < WAY_FIRING_BOUND }
+    requires soon { (part_at parts.old actor).time + time < WAY_TIME_BOUND }
     ensures { parts.new ≡ slice_set parts.old actor (record { firings = (part_at parts.old actor).firings + 1; time = (part_at parts.old actor).time + time }) }
 {
     let part = parts[actor as usize];
@@ -64,8 +64,8 @@ pub(crate) fn count(parts: &mut [Part], actor: u32, time: u64)
 /// Counts the firings of a segment so many times more.
 pub(crate) fn count_segments(parts: &mut [Part], segment: &[Part], segments: u64)
     requires same { length segment.now ≡ length parts.old }
-    requires few { (a : ℕ) → a < length parts.old → (part_at parts.old a).firings + segments * (part_at segment.now a).firings < 2 ^ 63 }
-    requires soon { (a : ℕ) → a < length parts.old → (part_at parts.old a).time + segments * (part_at segment.now a).time < 2 ^ 126 }
+    requires few { (a : ℕ) → a < length parts.old → (part_at parts.old a).firings + segments * (part_at segment.now a).firings < WAY_FIRING_BOUND }
+    requires soon { (a : ℕ) → a < length parts.old → (part_at parts.old a).time + segments * (part_at segment.now a).time < WAY_TIME_BOUND }
     ensures actors { length parts.new ≡ length parts.old }
     ensures firings { (a : ℕ) → a < length parts.old → (part_at parts.new a).firings ≡ (part_at parts.old a).firings + segments * (part_at segment.now a).firings }
     ensures time { (a : ℕ) → a < length parts.old → (part_at parts.new a).time ≡ (part_at parts.old a).time + segments * (part_at segment.now a).time }

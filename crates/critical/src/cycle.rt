@@ -1,5 +1,5 @@
 ghost use Rattle.std.specs.Prelude.{◌≡◌, ◌+◌, ◌*◌, ◌^◌, ◌<◌, ◌≤◌, ◌↔◌, IsTrue, MatchOption, flat_map, length, slice_index};
-ghost use Rattle.sd_base.specs.Ranges.{MOMENT_BOUND};
+ghost use Rattle.sd_base.specs.Ranges.{MOMENT_BOUND, WAY_TIME_BOUND};
 ghost use Rattle.sd_base.specs.declared.limits.TheConstants.{TIME};
 ghost use Rattle.sd_base.specs.Net.{channel_at, total};
 ghost use Rattle.sd_base.specs.Schedules.{time_of, LastNeed};
@@ -98,7 +98,7 @@ fn end_of_chain<F: Firing>(net: &F, from: FiringNo, stretches: &[Stretch]) -> Op
 
 /// The end of a chain that goes on along a stretch, and None where that is no chain from there on.
 fn end_of_stretch<F: Firing>(net: &F, from: ChainEnd, stretch: Stretch) -> Option<ChainEnd>
-    requires { from.time ≤ 2 ^ 126 }
+    requires { from.time ≤ WAY_TIME_BOUND }
     ensures { MatchOption result (¬ IsChain (F.net net.now) from.last (steps_in stretch)) (λ e. IsChain (F.net net.now) from.last (steps_in stretch)
         × (e.last ≡ last_of from.last (steps_in stretch)) × (e.time ≡ from.time + time_along (F.net net.now) from.last (steps_in stretch))
         × (e.time ≤ from.time + MOMENT_BOUND)) }

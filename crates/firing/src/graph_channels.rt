@@ -5,7 +5,7 @@ ghost use Rattle.sd_base.specs.declared.limits.TheConstants.{CHANNELS, ACTORS};
 ghost use Rattle.sd_base.specs.declared.tables.ActorRow.{ActorRow};
 ghost use Rattle.sd_base.specs.declared.tables.ChannelRow.{ChannelRow};
 ghost use Rattle.sd_base.specs.Net.{Channel, file_channel, file_channels};
-ghost use Rattle.sd_base.specs.FileNet.{has_self_loop, gets_own, own_channel, own_channels_from};
+ghost use Rattle.sd_base.specs.FileNet.{own_channel, own_channels_from};
 
 use sd_base::{ChannelRow, GraphFile, NoMemory};
 use std::alloc::Global;
@@ -76,27 +76,9 @@ fn push_own_channels<C: NetChannel + Drop>(
 {
     for i in 0..graph.actors.len() {
         let phases = graph.actors.as_slice()[i].phases;
-        if gets_own_channel(graph, i as u32, phases, no_overlap) {
+        if graph.gets_own_channel(i as u32, phases, no_overlap) {
             channels.push(C::own(alloc, i as u32, phases)?)?;
         }
     }
     Ok(())
-}
-
-/// Whether an actor of so many phases gets an own channel.
-fn gets_own_channel(graph: &GraphFile, actor: u32, phases: u32, no_overlap: bool) -> bool
-    ensures { result ≡ gets_own no_overlap graph.now.channels actor phases }
-{
-    1 < phases || (no_overlap && !leads_to_itself(graph, actor))
-}
-
-/// Whether a channel of the file leads from an actor to itself.
-fn leads_to_itself(graph: &GraphFile, actor: u32) -> bool
-    ensures { result ≡ has_self_loop graph.now.channels actor }
-{
-    graph
-        .channels
-        .as_slice()
-        .iter()
-        .any(|row| row.source == actor && row.target == actor)
 }

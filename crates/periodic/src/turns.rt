@@ -1,5 +1,5 @@
-ghost use Rattle.std.specs.Prelude.{◌≡◌, ◌↔◌, ◌+◌, ◌*◌, ◌/◌, ◌≤◌, ◌<◌, ◌^◌, ℕ, IsTrue, [], length, slice_index, slice_index_or};
-ghost use Rattle.sd_base.specs.Ranges.{WIDE_START_BOUND};
+ghost use Rattle.std.specs.Prelude.{◌≡◌, ◌↔◌, ◌+◌, ◌*◌, ◌/◌, ◌≤◌, ◌<◌, ℕ, IsTrue, [], length, slice_index, slice_index_or};
+ghost use Rattle.sd_base.specs.Ranges.{PASS_BOUND, WIDE_START_BOUND};
 ghost use Rattle.sd_base.specs.declared.limits.TheConstants.{START};
 ghost use Rattle.sd_base.specs.Schedules.{start_of, count_of};
 ghost use Rattle.sd_base.specs.Net.{channel_at};
@@ -196,7 +196,7 @@ fn row(rows: &[Rows<u128>], actor: u32) -> &[u128]
 fn start(period: u64, row: &[u128], firing: u128) -> u128
     requires some { 0 < length row.now }
     requires small { (k : ℕ) → slice_index row.now k ≤ START }
-    requires near { firing / length row.now ≤ 2 ^ 32 }
+    requires near { firing / length row.now ≤ PASS_BOUND }
     ensures start { result ≡ start_in period row.now firing }
     ensures small { result ≤ WIDE_START_BOUND }
 {

@@ -22,11 +22,10 @@ AgedAs row w v o = o ≡ aged_of w (cell_at row v)
 
 first-cell-start : (graph : TimedGraph) (v : ℕ) (o : Option Cell) (c : Cell) → IsFirstCell graph v o → o ≡ Some c → IsStart graph v × (c.score ≡ 0)
 first-cell-start graph v None c h e = absurd (cc)
-first-cell-start graph v (Some x) c (low, high, zero_score) e = let same : x ≡ c = (cc) in
-    ((v - graph.initial * graph.tokens, omega arith, omega arith), ap (λ (y : Cell). y.score) (sym same) ∙ zero_score)
+first-cell-start graph v (Some x) c (start, zero_score) e = let same : x ≡ c = (cc) in (start, ap (λ (y : Cell). y.score) (sym same) ∙ zero_score)
 
 first-cell-there : (graph : TimedGraph) (v : ℕ) (o : Option Cell) → IsFirstCell graph v o → IsStart graph v → (c : Cell) × (o ≡ Some c)
-first-cell-there graph v None h (i, below, is) = absurd (h (omega arith) (omega arith))
+first-cell-there graph v None h start = absurd (h start)
 first-cell-there graph v (Some x) h start = (x, refl)
 
 pub first-all : (graph : TimedGraph) (row : List (Option Cell)) → IsSound graph → So (IsFirstCell graph) row (graph.states * graph.tokens) → IsFirst graph (cell_at row)

@@ -38,8 +38,7 @@ fn first_cell(graph: &TimedGraph, node: u32) -> Option<Cell>
     requires sound { IsSound graph.now }
     ensures { IsFirstCell graph.now node result }
 {
-    let first = graph.initial * graph.tokens;
-    if first <= node && node < first + graph.tokens {
+    if graph.is_start(node) {
         return Some(Cell {
             score: 0,
             edge: None,

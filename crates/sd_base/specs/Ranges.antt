@@ -52,3 +52,27 @@ HALF_MOMENT_BOUND = 2 ^ 61
 -- passes of a loop that a walk of as many firings as are marked goes back, as rounds
 abbrev pub PASSED_ROUNDS_BOUND : ℕ
 PASSED_ROUNDS_BOUND = 32000000000000
+
+-- firings of an actor that a run starts
+abbrev pub RUN_START_BOUND : ℕ
+RUN_START_BOUND = 2 ^ 32
+
+-- passes of a schedule at which a need is tested
+abbrev pub PASS_BOUND : ℕ
+PASS_BOUND = 2 ^ 32
+
+-- the firings of an actor on a way, to which those of a part that comes again are added
+abbrev pub WAY_FIRING_BOUND : ℕ
+WAY_FIRING_BOUND = 2 ^ 63
+
+-- the time along a way
+abbrev pub WAY_TIME_BOUND : ℕ
+WAY_TIME_BOUND = 2 ^ 126
+
+-- the start of a firing in a round that begins with the greatest stamps, to which its time can still be added
+abbrev pub ROUND_START_BOUND : ℕ
+ROUND_START_BOUND = 2 ^ 100
+
+-- the elements of a list in memory
+abbrev pub LENGTH_BOUND : ℕ
+LENGTH_BOUND = 2 ^ 63

@@ -1,3 +1,6 @@
+ghost use Rattle.std.specs.Prelude.{◌≡◌};
+ghost use Rattle.sd_base.specs.FileNet.{gets_own, has_self_loop};
+
 use crate::{Rows, Text};
 
 /// Whether rates and times are single numbers or lists by phase.
@@ -15,6 +18,26 @@ pub struct GraphFile {
     pub kind: Kind,
     pub actors: Rows<ActorRow>,
     pub channels: Rows<ChannelRow>,
+}
+
+impl GraphFile {
+    /// Whether an actor of so many phases gets an own channel, which keeps its firings apart: one of several phases does and,
+    /// with `no_overlap`, each other actor without a self-loop in the file. Cost: linear in the channels.
+    pub fn gets_own_channel(&self, actor: u32, phases: u32, no_overlap: bool) -> bool
+        ensures { result ≡ gets_own no_overlap self.now.channels actor phases }
+    {
+        1 < phases || (no_overlap && !self.leads_to_itself(actor))
+    }
+
+    /// Whether a channel of the file leads from an actor to itself.
+    fn leads_to_itself(&self, actor: u32) -> bool
+        ensures { result ≡ has_self_loop self.now.channels actor }
+    {
+        self.channels
+            .as_slice()
+            .iter()
+            .any(|row| row.source == actor && row.target == actor)
+    }
 }
 
 /// An actor: its number of phases and, by phase, its execution times in time units. A file that

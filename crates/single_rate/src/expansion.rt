@@ -5,7 +5,7 @@ ghost use Rattle.sd_base.specs.Net.{IsRepetitionOf, channel_at};
 ghost use Rattle.sd_base.specs.Tables.{IsTimed, KeepsRules};
 ghost use Rattle.single_rate.specs.Expansions.{copy_rows, expansion, link_rows, links_of};
 ghost use Rattle.single_rate.specs.Limits.{Tells, excess, has_long_name};
-ghost use Rattle.single_rate.specs.Namings.{one_each};
+ghost use Rattle.single_rate.specs.Namings.{IsSameByNames, one_each};
 ghost use Rattle.single_rate.specs.declared.expansion.ExpandError.TheVariants.{NoMemory as lacking};
 
 use crate::copies::copy_rows;
@@ -58,6 +58,8 @@ pub fn expand<F: Firing>(
     ensures timed { IfOk result IsTimed }
     ensures keeps { IfOk result (λ g. ((i : ℕ) → i < length (F.net net.now).channels → (channel_at (F.net net.now) i).tokens ≤ TOKENS) → KeepsRules g) }
     ensures round { IfOk result (λ g. IsRepetitionOf g (one_each (F.net net.now))) }
+    // It is the net over again: one has the schedules of the other, firing by firing, and so the rate.
+    ensures same { IfOk result (λ _. IsSameByNames (F.net net.now) graph.now) }
 {
     know_laws(net);
     if copies(net) > ACTORS {

@@ -11,7 +11,15 @@ pub(crate) fn keep_within(text: &String) -> Result<(), CertError>
     ensures short { OnOk result (length (string_bytes text.now) ≤ CERTIFICATE_BYTES) }
     ensures long { IfErr result (λ e. (e ≡ TooLong) × (CERTIFICATE_BYTES < length (string_bytes text.now))) }
 {
-    if text.len() as u64 > CERTIFICATE_BYTES {
+    keep_below(text, CERTIFICATE_BYTES)
+}
+
+/// An error where a text is longer than so many bytes.
+pub(crate) fn keep_below(text: &String, most: u64) -> Result<(), CertError>
+    ensures short { OnOk result (length (string_bytes text.now) ≤ most) }
+    ensures long { IfErr result (λ e. (e ≡ TooLong) × (most < length (string_bytes text.now))) }
+{
+    if text.len() as u64 > most {
         return Err(CertError::TooLong);
     }
     Ok(())

@@ -1,5 +1,6 @@
 -- How long after one shared token each firing of a round starts at the least.
-use Rattle.std.specs.Prelude.{◌≡◌, ◌≢◌, ℕ, ◌+◌, ◌^◌, ◌≤◌, ◌<◌, ◌⊎◌, ◌↔◌, Bool, IsTrue, List, [], ◌∷◌, ◌++◌, length, slice_index, slice_index_or, max, Option, None, Some}
+use Rattle.std.specs.Prelude.{◌≡◌, ◌≢◌, ℕ, ◌+◌, ◌≤◌, ◌<◌, ◌⊎◌, ◌↔◌, Bool, IsTrue, List, [], ◌∷◌, ◌++◌, length, slice_index, slice_index_or, max, Option, None, Some}
+use Rattle.sd_base.specs.Ranges.{ROUND_START_BOUND}
 use Rattle.sd_base.specs.Net.{Net, channel_at, total}
 use Rattle.sd_base.specs.Schedules.{phases_at, time_of}
 use Rattle.token_matrix.specs.Stamps.{IsTakenBy, IsPutBy}
@@ -75,7 +76,7 @@ AreUpTo b rows = (a j t : ℕ) → start_in rows a j ≡ Some t → t ≤ b
 
 -- each start leaves room for the time of a firing in a number of 128 bits
 abbrev pub AreSmall : List (List (Option ℕ)) → Type 0
-AreSmall rows = (a j t : ℕ) → start_in rows a j ≡ Some t → t < 2 ^ 100
+AreSmall rows = (a j t : ℕ) → start_in rows a j ≡ Some t → t < ROUND_START_BOUND
 
 -- the firings that put what firing j of actor a takes from channel i have their starts, or none
 abbrev pub IsFedBy : Net → List (List (Option ℕ)) → ℕ → ℕ → Type 0

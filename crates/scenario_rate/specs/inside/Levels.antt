@@ -37,8 +37,8 @@ AreSmall b d = (v : ℕ) (c : Cell) → d v ≡ Some c → c.score ≤ b
 
 -- the cell of node v in the row of level 0
 abbrev pub IsFirstCell : TimedGraph → ℕ → Option Cell → Type 0
-IsFirstCell graph v None = graph.initial * graph.tokens ≤ v → v < graph.initial * graph.tokens + graph.tokens → ⊥
-IsFirstCell graph v (Some c) = (graph.initial * graph.tokens ≤ v) × (v < graph.initial * graph.tokens + graph.tokens) × (c.score ≡ 0)
+IsFirstCell graph v None = IsStart graph v → ⊥
+IsFirstCell graph v (Some c) = IsStart graph v × (c.score ≡ 0)
 
 -- a cell whose score is w more, and that no edge raised
 abbrev pub aged_of : ℕ → Option Cell → Option Cell
