@@ -7,3 +7,4 @@ pub mod PathsGoOn
 pub mod TwoAreTheSame
 pub mod KeptMatricesSuffice
 pub mod ComputedMatricesHold
+pub mod StartsAreFirstNodes
