@@ -1,8 +1,8 @@
 -- What is known of distributions that were rated stays known with one more.
-use Rattle.std.proofs.Common.{◌≡◌, ℕ, ◌*◌, ◌≤◌, ◌<◌, true, Option, None, Some, List, [], ◌∷◌, ◌++◌, length, inl, inr, ⊎_elim, sym, ap, ◌∙◌, subst, arith, mul-le-mul_left, mul-le-mul_right}
+use Rattle.std.proofs.Common.{◌≡◌, ℕ, ◌*◌, ◌≤◌, ◌<◌, true, Option, None, Some, List, [], ◌∷◌, ◌++◌, drop, length, inl, inr, ⊎_elim, sym, ap, ◌∙◌, subst, arith, mul-le-mul_left, mul-le-mul_right}
 use Rattle.std.specs.Prelude.{All, Contains, MatchOption, slice_index_or}
 use Rattle.std.proofs.lemmas.Bool.{cases_lt, true≢false}
-use Rattle.std.proofs.lemmas.List.Elements.{Contains-append_left, Contains-get_or, Contains-push, Contains-push_cases}
+use Rattle.std.proofs.lemmas.List.Elements.{All-drop, All-push, Contains-append_left, Contains-get_or, Contains-push, Contains-push_cases}
 use Rattle.sd_base.specs.declared.numbers.Fraction.{Fraction}
 use Rattle.sd_base.specs.declared.tables.ScenarioFile.{ScenarioFile}
 use Rattle.sd_base.specs.declared.tables.SharedRow.{SharedRow}
@@ -17,11 +17,13 @@ use Rattle.storage.specs.StorageOrder.{IsBefore}
 use Rattle.storage.proofs.CapacityOrder.{no_later-refl, no_later-total}
 use Rattle.storage.proofs.FrontsFromMembers.{below_less}
 use Rattle.bounded_scenarios.specs.SharedChannels.{shared_channels}
+use Rattle.scenario_storage.specs.declared.blocked.Blocked.{Blocked}
 use Rattle.scenario_storage.specs.declared.point.ScenarioPoint.{ScenarioPoint}
 use Rattle.scenario_storage.specs.declared.rated.Witness.{Witness}
 use Rattle.scenario_storage.specs.declared.rated.Rated.{Rated}
 use Rattle.scenario_storage.specs.ScenarioPoints.{IsShownBy}
-use Rattle.scenario_storage.specs.inside.Levels.{Shows}
+use Rattle.scenario_storage.specs.inside.Blocked.{IsKept}
+use Rattle.scenario_storage.specs.inside.Levels.{IsBlocked, Shows}
 use Rattle.scenario_storage.specs.inside.Points.{HasNoSlower, IsPut, IsTaken}
 use Rattle.scenario_storage.specs.inside.Searches.{AreKnown, IsBest, IsCoveredBy, IsNoted, IsOffered, IsPointFor, IsPointOf, IsPointWith, KeepsEarlier, entry_of}
 use Rattle.scenario_storage.proofs.PointOrder.{put-rising}
@@ -179,6 +181,21 @@ module _ (file : ScenarioFile) (limit : ℕ) (es : List Entry) (best : Fraction)
           one,
           subst (λ (n : ℕ). n * p.rate.den ≤ p.rate.num * r.rate.den) (sym for.num) (subst (λ (n : ℕ). point.rate.num * p.rate.den ≤ p.rate.num * n) (sym for.den) rate),
         )
+
+-- blocked distributions stay so with one more that was evaluated, with the first one of them or without
+pub blocked-more : (file : ScenarioFile) (limit : ℕ) (es : List Entry) (best : Fraction) (total : ℕ) (d : Distribution) (r : Rated) (ps : List ScenarioPoint) →
+    IsOffered file limit es best total d.capacities r ps → r.blocks ≡ true → (old new : List Blocked) →
+    IsKept (record { capacities = d; enlarge = r.enlarge }) old new → All (IsBlocked file limit) old → All (IsBlocked file limit) new
+blocked-more file limit es best total d r ps is says old new kept all =
+    let one : Blocked = record { capacities = d; enlarge = r.enlarge } in
+    let here : IsBlocked file limit (record { capacities = d; enlarge = r.enlarge }) = record {
+      fits = record { distribution = is.candidate.distribution; grid = is.candidate.grid; within = is.candidate.within };
+      shown = is.rated.blocks says;
+    } in
+    ⊎_elim
+    (λ (more : new ≡ old ++ one ∷ []). subst (All (IsBlocked file limit)) (sym more) (All-push (IsBlocked file limit) old one all here))
+    (λ (more : new ≡ drop 1 old ++ one ∷ []). subst (All (IsBlocked file limit)) (sym more) (All-push (IsBlocked file limit) (drop 1 old) one (All-drop (IsBlocked file limit) 1 old all) here))
+    kept
 
 -- points of less storage stay
 pub taken-keeps : (point : ScenarioPoint) (old new : List ScenarioPoint) → IsTaken point old new → KeepsEarlier point.total old new

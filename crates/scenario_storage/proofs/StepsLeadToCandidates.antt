@@ -16,8 +16,8 @@ use Rattle.levels.specs.Frontiers.{Rises}
 use Rattle.sd_base.proofs.ContainedHavePlaces.{contains-map, contains-unmap}
 use Rattle.bounded_scenarios.specs.SharedChannels.{shared_channels}
 use Rattle.bounded_scenarios.specs.ScenarioGuides.{corner, next}
-use Rattle.scenario_storage.specs.inside.Levels.{IsGuided}
 use Rattle.scenario_storage.specs.inside.Searches.{IsCandidate, IsNoted}
+use Rattle.scenario_storage.specs.inside.Shown.{IsGuided}
 use Rattle.scenario_storage.proofs.FilesAllowSearch.{IsSearchable}
 
 -- entries and visits

@@ -34,7 +34,7 @@ use Rattle.scenario_storage.specs.declared.rated.Rated.{Rated}
 use Rattle.scenario_storage.specs.declared.search.Search.{Search}
 use Rattle.scenario_storage.specs.ScenarioPoints.{IsRefusal}
 use Rattle.scenario_storage.specs.inside.Errors.{error_of}
-use Rattle.scenario_storage.specs.inside.Levels.{IsRatingAnswer, IsRated, IsWithin}
+use Rattle.scenario_storage.specs.inside.Levels.{IsBlocked, IsRatingAnswer, IsRated, IsWithin}
 use Rattle.scenario_storage.specs.inside.Points.{IsBestOf}
 use Rattle.scenario_storage.specs.inside.Searches.{AreKnown, HasTop, IsAnswerOf, IsBest, IsCandidate, IsEndedWith, IsOffered, IsSearch, IsSearchOf, IsStanding, IsTurn, IsTurnAfter, ShowsNone, answered_of, entry_of, taken_off}
 use Rattle.scenario_storage.proofs.RatingsStayKnown.{noted-more}
@@ -82,7 +82,7 @@ module _ (file : ScenarioFile) (limits : ScenarioLimits) (can : IsSearchable fil
 
 -- a level that is taken off
 module _ (file : ScenarioFile) (limits : ScenarioLimits) (can : IsSearchable file limits.total) (floor : ℕ) (old new : Search)
-    (search : IsSearch file limits floor [] old) (points : new.points ≡ old.points) (tops : new.topped ≡ old.topped) (level : Level Unit)
+    (search : IsSearch file limits floor [] old) (points : new.points ≡ old.points) (keeps : new.blocked ≡ old.blocked) (tops : new.topped ≡ old.topped) (level : Level Unit)
     (off : IsLevelTaken level.total level.visits.items old.levels.waiting new.levels.waiting) (same : IsSame old.levels new.levels)
     (frontier : IsFrontier (shared_channels file) search.corner (level.total + 1) (visits_of search.entries) (distributions_of level.visits.items) new.levels) where
   same-points : new.points.items ≡ old.points.items
@@ -96,6 +96,7 @@ module _ (file : ScenarioFile) (limits : ScenarioLimits) (can : IsSearchable fil
     is_corner = search.is_corner;
     bounds = same.bounds ∙ search.bounds;
     frontier = frontier;
+    blocked = (let same : new.blocked.items ≡ old.blocked.items = ap (λ v. v.items) keeps in subst (All (IsBlocked file limits.total)) (sym same) search.blocked);
     top = λ h. search.top (sym tops ∙ h);
   }
 
@@ -229,26 +230,27 @@ module _ (file : ScenarioFile) (limits : ScenarioLimits) (can : IsSearchable fil
   -- the search with one more entry
   pub taken-in : (new : Search) (points : List ScenarioPoint) → new.points.items ≡ points → IsSame old.levels new.levels →
       IsFrontier (shared_channels file) search.corner (total + 1) (visits_of search.entries ++ led_by ds r.enlarge ∷ []) rest new.levels →
-      AreKnown file limits.total (search.entries ++ entry_of ds r ∷ []) points → (new.topped ≡ true → (old.topped ≡ true) ⊎ ShowsNone r) → IsSearch file limits (total + 1) rest new
-  taken-in new points is same frontier known tops = record {
+      AreKnown file limits.total (search.entries ++ entry_of ds r ∷ []) points → All (IsBlocked file limits.total) new.blocked.items → (new.topped ≡ true → (old.topped ≡ true) ⊎ ShowsNone r) → IsSearch file limits (total + 1) rest new
+  taken-in new points is same frontier known blocked tops = record {
     entries = search.entries ++ entry_of ds r ∷ [];
     known = subst (AreKnown file limits.total (search.entries ++ entry_of ds r ∷ [])) (sym is) known;
     corner = search.corner;
     is_corner = search.is_corner;
     bounds = same.bounds ∙ search.bounds;
     frontier = subst (λ (vs : List Visit). IsFrontier (shared_channels file) search.corner (total + 1) vs rest new.levels) (sym visits-with) frontier;
+    blocked = blocked;
     top = λ h. ⊎_elim top-before top-here (tops h);
   }
 
   pub taken-in-of : (new : Search) (points : List ScenarioPoint) → new.points.items ≡ points → IsSame old.levels new.levels →
       IsFrontier (shared_channels file) search.corner (total + 1) (visits_of search.entries ++ led_by ds r.enlarge ∷ []) rest new.levels →
-      AreKnown file limits.total (search.entries ++ entry_of ds r ∷ []) points → (new.topped ≡ true → (old.topped ≡ true) ⊎ ShowsNone r) →
+      AreKnown file limits.total (search.entries ++ entry_of ds r ∷ []) points → All (IsBlocked file limits.total) new.blocked.items → (new.topped ≡ true → (old.topped ≡ true) ⊎ ShowsNone r) →
       (all : List (List (Option ℕ))) → visited (visits_of search.entries) ++ ds ∷ rest ≡ all → IsSearchOf file limits (total + 1) all rest new
   unfolding taken-in
-  taken-in-of new points is same frontier known tops all whole =
+  taken-in-of new points is same frontier known blocked tops all whole =
       let more : visited (visits_of (search.entries ++ entry_of ds r ∷ [])) ≡ visited (visits_of search.entries) ++ ds ∷ [] =
       ap visited visits-with ∙ map-append (λ (v : Visit). v.capacities) (visits_of search.entries) (led_by ds r.enlarge ∷ []) in (
-        taken-in new points is same frontier known tops,
+        taken-in new points is same frontier known blocked tops,
         ap (λ (dss : List (List (Option ℕ))). dss ++ rest) more ∙ (append_assoc (visited (visits_of search.entries)) (ds ∷ []) rest ∙ whole),
       )
 
@@ -314,7 +316,7 @@ rest-more answers n a below is =
 module _ (file : ScenarioFile) (limits : ScenarioLimits) where
   pub all-within : (fs : List (Found Unit)) → All (λ (f : Found Unit). IsCandidate file limits.total f.capacities.capacities) fs →
       All (λ (f : Found Unit). IsWithin file limits.total f.capacities.capacities) fs
-  all-within fs all = λ k d below. record { distribution = (all k d below).distribution; within = (all k d below).within }
+  all-within fs all = λ k d below. record { distribution = (all k d below).distribution; grid = (all k d below).grid; within = (all k d below).within }
 
 -- what taking a level off comes to
 abbrev IsNextLevel : Search → Search → Option (Level Unit) → Type 0
@@ -325,21 +327,21 @@ IsNextFrontier old new found = (cs : List Channel) (start : List (Option ℕ)) (
     MatchOption found (AreVisits cs start old.levels.bounds.total visits) (λ (level : Level Unit). IsFrontier cs start (level.total + 1) visits (distributions_of level.visits.items) new.levels)
 
 module _ (file : ScenarioFile) (limits : ScenarioLimits) (can : IsSearchable file limits.total) (floor : ℕ) (old new : Search)
-    (search : IsSearch file limits floor [] old) (points : new.points ≡ old.points) (tops : new.topped ≡ old.topped) (same : IsSame old.levels new.levels) where
+    (search : IsSearch file limits floor [] old) (points : new.points ≡ old.points) (keeps : new.blocked ≡ old.blocked) (tops : new.topped ≡ old.topped) (same : IsSame old.levels new.levels) where
   pub next-turn : (found : Option (Level Unit)) → IsNextLevel old new found → IsNextFrontier old new found → (all : List (List (Option ℕ))) → visited (visits_of search.entries) ++ [] ≡ all →
       MatchOption found (IsEndedWith file limits all old.points.items) (λ (level : Level Unit). IsTurnAfter file limits all level new)
   next-turn None off frontier all whole = ended-of file limits can floor old search (frontier (shared_channels file) search.corner floor (visits_of search.entries) search.frontier) all whole
-  next-turn (Some level) off frontier all whole = turn-after file limits can floor old new search points tops level off same (frontier (shared_channels file) search.corner floor (visits_of search.entries) search.frontier) all whole
+  next-turn (Some level) off frontier all whole = turn-after file limits can floor old new search points keeps tops level off same (frontier (shared_channels file) search.corner floor (visits_of search.entries) search.frontier) all whole
 
   pub next-more : (found : Option (Level Unit)) → IsNextLevel old new found → IsNextFrontier old new found → MatchOption found Unit (λ (level : Level Unit). taken_off old < taken_off new)
   next-more None off frontier = tt
-  next-more (Some level) off frontier = off-more file limits can floor old new search points tops level off same (frontier (shared_channels file) search.corner floor (visits_of search.entries) search.frontier)
+  next-more (Some level) off frontier = off-more file limits can floor old new search points keeps tops level off same (frontier (shared_channels file) search.corner floor (visits_of search.entries) search.frontier)
 
 -- the corner waits
-pub begun : (file : ScenarioFile) (limits : ScenarioLimits) (corner : List (Option ℕ)) (s : Search) → IsCorner (shared_channels file) corner → s.points.items ≡ [] →
+pub begun : (file : ScenarioFile) (limits : ScenarioLimits) (corner : List (Option ℕ)) (s : Search) → IsCorner (shared_channels file) corner → s.points.items ≡ [] → s.blocked.items ≡ [] →
     s.levels.bounds ≡ record { total = limits.total; distributions = limits.distributions } → IsFrontier (shared_channels file) corner 0 [] [] s.levels →
     s.topped ≡ false → IsStanding file limits [] s
-begun file limits corner s is points bounds frontier none = (
+begun file limits corner s is points blocked bounds frontier none = (
   0,
   (
     record {
@@ -354,6 +356,7 @@ begun file limits corner s is points bounds frontier none = (
       is_corner = is;
       bounds = bounds;
       frontier = frontier;
+      blocked = subst (All (IsBlocked file limits.total)) (sym blocked) (λ k b below. absurd (omega (arith, below)));
       top = λ h. absurd (true≢false (sym h ∙ none));
     },
     refl,

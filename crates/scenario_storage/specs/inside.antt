@@ -1,5 +1,6 @@
 pub mod Errors
 pub mod Points
+pub mod Blocked
 pub mod Levels
 pub mod Ratings
 pub mod Shown

@@ -2,6 +2,7 @@
 //! automaton: the Pareto points of all storage distributions within a limit, by levels of equal storage.
 #![tactic(auto)]
 
+mod blocked;
 mod error;
 mod level;
 mod members;

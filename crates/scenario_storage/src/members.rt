@@ -8,9 +8,10 @@ ghost use Rattle.bounded_scenarios.specs.SharedChannels.{shared_channels};
 ghost use Rattle.bounded_scenarios.specs.ScenarioGuides.{IsReachable};
 ghost use Rattle.scenario_storage.specs.declared.point.ScenarioLimits.{ScenarioLimits as SomeLimits};
 ghost use Rattle.scenario_storage.specs.ScenarioPoints.{IsRefusal};
-ghost use Rattle.scenario_storage.specs.inside.Levels.{IsPlan, IsRateRefusal, IsRated};
+ghost use Rattle.scenario_storage.specs.inside.Levels.{IsBlocked, IsPlan, IsRateRefusal, IsRated};
 ghost use Rattle.scenario_storage.specs.inside.Searches.{AreKnown, IsAnswerOf, IsBest, IsOffered, IsPointWith, IsSearch, IsSearchOf, KeepsEarlier, ShowsNone, answered_of, entry_of, taken_off};
 
+use crate::blocked::{Blocked, keep};
 use crate::error::ScenarioStorageError;
 use crate::level::Answered;
 use crate::plan::Plan;
@@ -98,7 +99,13 @@ fn take_in(
 {
     search.levels.lead_on(plan.alloc, &capacities, total, rated.enlarge.as_slice(), ())?;
     search.topped = is_topped(search.topped, &rated);
-    offer(total, capacities, rated, &mut search.points)?;
+    offer(
+        total,
+        capacities,
+        rated,
+        &mut search.points,
+        &mut search.blocked,
+    )?;
     Ok(())
 }
 
@@ -109,25 +116,36 @@ fn is_topped(so_far: bool, rated: &Rated) -> bool
     so_far || (rated.enlarge.is_empty() && rated.rate.num > 0)
 }
 
-/// Takes in the point of a distribution, if its witness was kept.
+/// Takes in the point of a distribution, if its witness was kept, and keeps it where it was evaluated and is blocked.
 fn offer(
     total: u64,
     capacities: Distribution,
     rated: Rated,
     points: &mut Vec<ScenarioPoint>,
+    blocked: &mut Vec<Blocked>,
 ) -> Result<(), NoMemory>
     requires { (file : AFile) × (limit : ℕ) × (es : List Entry) × (best : AFraction) × IsOffered file limit es best total capacities.capacities rated points.old.items }
     ensures known { OnOk result ((file : AFile) (limit : ℕ) (es : List Entry) (best : AFraction) → IsOffered file limit es best total capacities.capacities rated points.old.items →
         AreKnown file limit (es ++ entry_of capacities.capacities rated ∷ []) points.new.items) }
     ensures keeps { OnOk result (KeepsEarlier total points.old.items points.new.items) }
+    ensures blocked { OnOk result ((file : AFile) (limit : ℕ) (es : List Entry) (best : AFraction) → IsOffered file limit es best total capacities.capacities rated points.old.items →
+        All (IsBlocked file limit) blocked.old.items → All (IsBlocked file limit) blocked.new.items) }
 {
     let Rated {
         rate,
-        enlarge: _,
+        enlarge,
+        blocks,
         witness,
     } = rated;
     match witness {
         Some(witness) => take_point(point_of(total, rate, capacities, witness), points),
+        None if blocks => keep(
+            Blocked {
+                capacities,
+                enlarge,
+            },
+            blocked,
+        ),
         None => Ok(()),
     }
 }

@@ -8,12 +8,13 @@ use scenario_rate::Worst;
 use sd_base::{Fraction, NoMemory, Rows, SharedRow};
 use std::alloc::{AllocError, AllocFailed};
 
-/// The worst rate of a distribution, the shared channels on which more room could raise it, and what shows the rate, where
-/// that is above the best one of less storage; else it is no point's.
+/// The worst rate of a distribution, the shared channels on which more room could raise it, whether it was evaluated and is
+/// blocked, and what shows the rate, where that is above the best one of less storage; else it is no point's.
 #[derive(Drop)]
 pub(crate) struct Rated {
     pub(crate) rate: Fraction,
     pub(crate) enlarge: Rows<u32>,
+    pub(crate) blocks: bool,
     pub(crate) witness: Option<Witness>,
 }
 

@@ -1,11 +1,13 @@
 //! The worst rate of a distribution.
-ghost use Rattle.std.specs.Prelude.{◌≡◌, ◌<◌, ℕ, Err, IfErr, IfOk, List, Option, length};
+ghost use Rattle.std.specs.Prelude.{◌≡◌, ◌<◌, ℕ, All, Err, IfErr, IfOk, List, Option, length};
 ghost use Rattle.sd_base.specs.declared.numbers.Fraction.{Fraction as AFraction};
 ghost use Rattle.sd_base.specs.declared.tables.ScenarioFile.{ScenarioFile as AFile};
 ghost use Rattle.bounded_scenarios.specs.BoundedFiles.{bounded_file};
-ghost use Rattle.scenario_storage.specs.inside.Levels.{IsRatingAnswer, IsPlan, IsRateRefusal, IsWithin};
+ghost use Rattle.scenario_storage.specs.inside.Blocked.{HoldsBack};
+ghost use Rattle.scenario_storage.specs.inside.Levels.{IsBlocked, IsRatingAnswer, IsPlan, IsRateRefusal, IsWithin};
 ghost use Rattle.scenario_storage.specs.inside.Ratings.{AreKeptMatrices, IsBlockedAt, IsGraphOf, IsMatrixAnswer, IsMeasured, RunBefore};
 
+use crate::blocked::{Blocked, held_by};
 use crate::plan::Plan;
 use crate::rated::{RateError, Rated, Witness, if_above};
 use crate::scenario::{gamma_at, graph_at};
@@ -26,13 +28,45 @@ pub(crate) enum Measured {
     Live { matrices: Vec<Matrix> },
 }
 
-/// The worst rate of a distribution, given the best rate of less storage. Cost: that of `matrix_of` for each scenario, of
-/// `product`, of `worst`, and of one way for each edge of the critical cycle.
+/// The worst rate of a distribution, given the best rate of less storage and blocked distributions, one of which may hold it
+/// back; else it is evaluated. Cost: that of `held_by`, and of the evaluation.
 pub(crate) fn rate(
     plan: &Plan,
+    blocked: &[Blocked],
     capacities: &Distribution,
     best: Fraction,
 ) -> Result<Rated, RateError>
+    requires plan { IsPlan plan.now.file.now plan.now.gammas.now plan.now.limits }
+    requires blocked { All (IsBlocked plan.now.file.now plan.now.limits.total) blocked.now }
+    requires fits { IsWithin plan.now.file.now plan.now.limits.total capacities.now.capacities }
+    ensures { IsRatingAnswer plan.now.file.now plan.now.limits best capacities.now.capacities result }
+{
+    match held_by(blocked, capacities) {
+        Some(one) => rate_held(plan, capacities, one),
+        None => evaluate(plan, capacities, best),
+    }
+}
+
+/// The rate 0 of a distribution that a blocked one holds back: it is blocked at the same counts, and shows the same channels.
+fn rate_held(plan: &Plan, capacities: &Distribution, by: &Blocked) -> Result<Rated, RateError>
+    requires plan { IsPlan plan.now.file.now plan.now.gammas.now plan.now.limits }
+    requires fits { IsWithin plan.now.file.now plan.now.limits.total capacities.now.capacities }
+    requires blocked { IsBlocked plan.now.file.now plan.now.limits.total by.now }
+    requires held { HoldsBack by.now.capacities.capacities by.now.enlarge capacities.now.capacities }
+    ensures { (best : AFraction) → IsRatingAnswer plan.now.file.now plan.now.limits best capacities.now.capacities result }
+{
+    let enlarge = Vec::from_slice(plan.alloc, by.enlarge.as_slice())?;
+    Ok(Rated {
+        rate: Fraction::new(0, 1),
+        enlarge: Rows::from_vec(enlarge),
+        blocks: false,
+        witness: None,
+    })
+}
+
+/// The worst rate of a distribution from its bounded file, given the best rate of less storage. Cost: that of `matrix_of` for
+/// each scenario, of `product`, of `worst`, and of one way for each edge of the critical cycle.
+fn evaluate(plan: &Plan, capacities: &Distribution, best: Fraction) -> Result<Rated, RateError>
     requires plan { IsPlan plan.now.file.now plan.now.gammas.now plan.now.limits }
     requires fits { IsWithin plan.now.file.now plan.now.limits.total capacities.now.capacities }
     ensures { IsRatingAnswer plan.now.file.now plan.now.limits best capacities.now.capacities result }
@@ -117,6 +151,7 @@ fn rate_blocked(
     Ok(Rated {
         rate: Fraction::new(0, 1),
         enlarge,
+        blocks: true,
         witness: None,
     })
 }
@@ -155,6 +190,7 @@ fn rate_live(
     Ok(Rated {
         rate,
         enlarge,
+        blocks: false,
         witness: if_above(witness, rate, best),
     })
 }

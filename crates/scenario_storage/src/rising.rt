@@ -4,6 +4,7 @@ ghost use Rattle.scenario_storage.specs.inside.Points.{AreEarlier, AreRising, Ar
 
 use crate::point::ScenarioPoint;
 use sd_base::{Fraction, NoMemory};
+use std::cmp::Ordering;
 
 /// Takes in a point of no less storage than those so far, if its rate is above theirs: it stands last, in the place of the
 /// last one if that has the same storage.
@@ -38,7 +39,7 @@ fn is_above(rate: Fraction, points: &[ScenarioPoint]) -> bool
 pub(crate) fn is_slower(first: Fraction, second: Fraction) -> bool
     ensures { MatchBool result (IsSlower first second) (second.num * first.den ≤ first.num * second.den) }
 {
-    u128::from(first.num) * u128::from(second.den) < u128::from(second.num) * u128::from(first.den)
+    matches!(first.compare(&second), Ordering::Less)
 }
 
 /// Takes the last point off, if it has this storage.

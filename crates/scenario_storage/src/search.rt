@@ -16,6 +16,7 @@ ghost use Rattle.scenario_storage.specs.inside.Levels.{AreRounds, HaveRounds, Is
 ghost use Rattle.scenario_storage.specs.inside.Points.{IsBestOf};
 ghost use Rattle.scenario_storage.specs.inside.Searches.{IsEndedWith, IsSearchOf, IsStanding, IsTurn, IsTurnAfter, taken_off};
 
+use crate::blocked::Blocked;
 use crate::error::ScenarioStorageError;
 use crate::level::run_level;
 use crate::members::take_in_all;
@@ -30,11 +31,12 @@ use std::alloc::Global;
 use std::thread::Threads;
 use storage::Distribution;
 
-/// Where the search stands: the distributions that wait, the points among those that were rated, and whether one of these has
-/// a rate that bounds those of all.
+/// Where the search stands: the distributions that wait, the points among those that were rated, the newest blocked ones that were
+/// evaluated, and whether one of those that were rated has a rate that bounds those of all.
 pub(crate) struct Search {
     pub(crate) levels: Levels<()>,
     pub(crate) points: Vec<ScenarioPoint>,
+    pub(crate) blocked: Vec<Blocked>,
     pub(crate) topped: bool,
 }
 
@@ -44,6 +46,7 @@ impl Drop for Search {
         let Search {
             levels: _levels,
             points: _points,
+            blocked: _blocked,
             topped: _,
         } = self;
     }
@@ -57,6 +60,7 @@ impl Search {
         let Search {
             levels: _levels,
             points,
+            blocked: _blocked,
             topped: _,
         } = self;
         points
@@ -150,6 +154,7 @@ fn begin(plan: &Plan, corner: Distribution, total: u64) -> Result<Search, NoMemo
     Ok(Search {
         levels: Levels::begin(plan.alloc, channels, bounds, corner, total, ())?,
         points: Vec::new(plan.alloc),
+        blocked: Vec::new(plan.alloc),
         topped: false,
     })
 }
@@ -208,7 +213,7 @@ fn take_turn<R: Threads + Sync, G: Gate + Sync>(
 {
     let total = level.total;
     let best = best_rate(search.points.as_slice());
-    let answers = run_level(rt, plan, best, level, gate)?;
+    let answers = run_level(rt, plan, search.blocked.as_slice(), best, level, gate)?;
     take_in_all(plan, total, answers, search)?;
     Ok(())
 }

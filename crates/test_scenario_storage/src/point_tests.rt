@@ -267,3 +267,45 @@ fn rates_may_differ_between_scenarios(rt: HostRuntime) -> Result<(), Fail> {
     }
     Ok(())
 }
+
+// Actor 0 sends to actor 1 on s, which answers on u, and to actor 2 on v, which answers on w. With one place each all wait for
+// space. With two on u alone actor 1 fires, then actor 0 waits for v and actor 2 for w; so they do with two on s as well, since
+// this distribution has no more room on v and w. It is the same with the pairs in each other's places. The other four of storage 6
+// take turns. Eleven are found to there: the corner, four of storage 5, and six.
+#[test]
+fn what_a_blocked_distribution_holds_back_is_blocked_too(rt: HostRuntime) -> Result<(), Fail> {
+    let channels = [
+        ("s", channel(0, 1, 1, 1, 1)),
+        ("u", channel(1, 1, 1, 0, 1)),
+        ("v", channel(0, 1, 1, 2, 1)),
+        ("w", channel(2, 1, 1, 0, 1)),
+    ];
+    let scenarios = [Scenario {
+        times: &[1, 1, 1],
+        channels: &channels,
+    }];
+    let file = alone(&scenarios);
+    let in_turn = Row {
+        total: 6,
+        rate: (1, 2),
+        capacities: &[Some(1), Some(2), Some(1), Some(2)],
+        shared: 6,
+        cycle: &[0],
+        time: 2,
+    };
+    let all_at_once = Row {
+        total: 8,
+        rate: (1, 1),
+        capacities: &[Some(2), Some(2), Some(2), Some(2)],
+        shared: 8,
+        cycle: &[0, 1],
+        time: 2,
+    };
+    check(&rt, rt.alloc(), &file, 8, &[in_turn, all_at_once])?;
+    let points = points_of(&rt, rt.alloc(), &file, limits(6, 11), &OpenGate)?;
+    check_points(&rt, rt.alloc(), points.as_slice(), &[in_turn])?;
+    match points_of(&rt, rt.alloc(), &file, limits(6, 10), &OpenGate) {
+        Err(ScenarioStorageError::DistributionsSpent) => Ok(()),
+        _ => panic!(&rt; "eleven distributions are more than ten"),
+    }
+}

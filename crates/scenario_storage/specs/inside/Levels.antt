@@ -1,24 +1,25 @@
 -- What the evaluation of distributions comes to.
-use Rattle.std.specs.Prelude.{◌≡◌, ℕ, ◌*◌, ◌≤◌, Contains, MatchOption, Option, None, Some, List, [], Result, Ok, Err, length, slice_get}
+use Rattle.std.specs.Prelude.{◌≡◌, ℕ, ◌*◌, ◌≤◌, All, Contains, MatchOption, Option, None, Some, List, [], Result, Ok, Err, length, slice_get, true}
 use Rattle.sd_base.specs.declared.limits.TheConstants.{STORAGE}
 use Rattle.sd_base.specs.declared.numbers.Fraction.{Fraction}
 use Rattle.sd_base.specs.declared.tables.ScenarioFile.{ScenarioFile}
 use Rattle.sd_base.specs.declared.tables.ScenarioRow.{ScenarioRow}
 use Rattle.balance.specs.Repetition.{IsRound}
-use Rattle.storage.specs.Distributions.{AtMost, IsDistribution, capacity_at, storage_of}
-use Rattle.storage.specs.Steps.{rounded}
+use Rattle.storage.specs.Distributions.{AtMost, IsDistribution, storage_of}
+use Rattle.storage.specs.Steps.{IsOnGrid, rounded}
 use Rattle.storage.specs.ClosedLists.{AgreesOn}
 use Rattle.storage.specs.declared.distribution.Distribution.{Distribution}
 use Rattle.bounded_scenarios.specs.SharedChannels.{shared_channels}
 use Rattle.bounded_scenarios.specs.StorageRates.{HasWorstRate}
-use Rattle.bounded_scenarios.specs.ScenarioGuides.{IsInGuide}
 use Rattle.bounded_scenarios.specs.Boundings.{CanBeBounded}
+use Rattle.scenario_storage.specs.declared.blocked.Blocked.{Blocked}
 use Rattle.scenario_storage.specs.declared.point.ScenarioLimits.{ScenarioLimits}
 use Rattle.scenario_storage.specs.declared.rated.Witness.{Witness}
 use Rattle.scenario_storage.specs.declared.rated.Rated.{Rated}
 use Rattle.scenario_storage.specs.declared.rated.RateError.{RateError}
 use Rattle.scenario_storage.specs.declared.rated.RateError.TheVariants.{Edges, NoMemory}
 use Rattle.scenario_storage.specs.ScenarioPoints.{HasTooManyEdges, IsShownBy}
+use Rattle.scenario_storage.specs.inside.Shown.{AreShownBlocked, IsGuided}
 
 -- each scenario has a repetition vector
 abbrev pub HaveRounds : ScenarioFile → Type 0
@@ -35,9 +36,10 @@ pub record IsPlan (file : ScenarioFile) (gammas : List (List ℕ)) (limits : Sce
   pub rounds : AreRounds file gammas
   pub total : limits.total ≤ STORAGE
 
--- a distribution within the limit
+-- a distribution on the grid and within the limit
 pub record IsWithin (file : ScenarioFile) (limit : ℕ) (ds : List (Option ℕ)) : Type 0 where
   pub distribution : IsDistribution (shared_channels file) ds
+  pub grid : IsOnGrid (shared_channels file) ds
   pub within : storage_of (shared_channels file) ds ≤ limit
 
 -- a rate bounds those of all distributions within the limit that have, rounded down, no less room than ds, and as much on
@@ -52,21 +54,23 @@ abbrev pub BoundsAll : ScenarioFile → ℕ → ℕ → ℕ → Type 0
 BoundsAll file limit num den =
     (es : List (Option ℕ)) → IsDistribution (shared_channels file) es → storage_of (shared_channels file) es ≤ limit → (p q : ℕ) → HasWorstRate file es p q → 1 ≤ p → p * den ≤ num * q
 
--- channel c is in the guide of a distribution, and has a capacity
-abbrev pub IsGuided : ScenarioFile → List (Option ℕ) → ℕ → Type 0
-IsGuided file ds c = IsInGuide file ds c × ((k : ℕ) × (capacity_at ds c ≡ Some k))
-
 -- the witness shows a rate
 abbrev pub Shows : ScenarioFile → List (Option ℕ) → Fraction → Witness → Type 0
 Shows file ds rate e = IsShownBy file ds rate e.shared e.graph e.worst
 
--- the worst rate of a distribution, with channels that hold it back and bound it, or none and it bounds all; and the witness,
--- or the rate is no more than the best
+-- a distribution is blocked, and its channels are those that hold it up
+pub record IsBlocked (file : ScenarioFile) (limit : ℕ) (b : Blocked) : Type 0 where
+  pub fits : IsWithin file limit b.capacities.capacities
+  pub shown : AreShownBlocked file b.capacities.capacities b.enlarge
+
+-- the worst rate of a distribution, with channels that hold it back and bound it, or none and it bounds all; what is said to
+-- block is blocked as these channels show; and the witness, or the rate is no more than the best
 pub record IsRated (file : ScenarioFile) (limit : ℕ) (best : Fraction) (ds : List (Option ℕ)) (r : Rated) : Type 0 where
   pub rate : HasWorstRate file ds r.rate.num r.rate.den
   pub guided : (c : ℕ) → Contains r.enlarge c → IsGuided file ds c
   pub bounds : BoundsRates file limit ds r.enlarge r.rate.num r.rate.den
   pub top : r.enlarge ≡ [] → 1 ≤ r.rate.num → BoundsAll file limit r.rate.num r.rate.den
+  pub blocks : r.blocks ≡ true → AreShownBlocked file ds r.enlarge
   pub witness : MatchOption r.witness (r.rate.num * best.den ≤ best.num * r.rate.den) (Shows file ds r.rate)
 
 -- why a distribution isn't rated
@@ -83,9 +87,10 @@ abbrev pub IsAnswered : ScenarioFile → ScenarioLimits → Fraction → List (O
 IsAnswered file limits best ds None = ⊥
 IsAnswered file limits best ds (Some answer) = IsRatingAnswer file limits best ds answer
 
--- a distribution may be evaluated
-pub record IsReady (file : ScenarioFile) (gammas : List (List ℕ)) (limits : ScenarioLimits) (d : Distribution) : Type 0 where
+-- a distribution may be rated, given these blocked ones
+pub record IsReady (file : ScenarioFile) (gammas : List (List ℕ)) (limits : ScenarioLimits) (bs : List Blocked) (d : Distribution) : Type 0 where
   pub plan : IsPlan file gammas limits
+  pub blocked : All (IsBlocked file limits.total) bs
   pub fits : IsWithin file limits.total d.capacities
 
 -- a task keeps its distribution and has its answer
@@ -93,10 +98,11 @@ pub record HasRun (file : ScenarioFile) (limits : ScenarioLimits) (best : Fracti
   pub same : after ≡ before
   pub answered : IsAnswered file limits best before.capacities answer
 
--- a task of a plan that hasn't run
-pub record IsFresh (file : ScenarioFile) (gammas : List (List ℕ)) (limits : ScenarioLimits) (best : Fraction) (its_file : ScenarioFile) (its_gammas : List (List ℕ)) (its_limits : ScenarioLimits) (its_best : Fraction) (d : Distribution) : Type 0 where
+-- a task of a plan that hasn't run, with blocked distributions
+pub record IsFresh (file : ScenarioFile) (gammas : List (List ℕ)) (limits : ScenarioLimits) (best : Fraction) (its_file : ScenarioFile) (its_gammas : List (List ℕ)) (its_limits : ScenarioLimits) (its_blocked : List Blocked) (its_best : Fraction) (d : Distribution) : Type 0 where
   pub file_is : its_file ≡ file
   pub gammas_are : its_gammas ≡ gammas
   pub limits_are : its_limits ≡ limits
+  pub blocked : All (IsBlocked file limits.total) its_blocked
   pub best_is : its_best ≡ best
   pub fits : IsWithin file limits.total d.capacities

@@ -21,8 +21,9 @@ use Rattle.scenario_storage.specs.declared.rated.Witness.{Witness}
 use Rattle.scenario_storage.specs.declared.rated.Rated.{Rated}
 use Rattle.scenario_storage.specs.declared.search.Search.{Search}
 use Rattle.scenario_storage.specs.ScenarioPoints.{IsShownBy}
-use Rattle.scenario_storage.specs.inside.Levels.{BoundsAll, BoundsRates, IsRatingAnswer, IsGuided, IsRated}
+use Rattle.scenario_storage.specs.inside.Levels.{BoundsAll, BoundsRates, IsBlocked, IsRatingAnswer, IsRated}
 use Rattle.scenario_storage.specs.inside.Points.{AreRising}
+use Rattle.scenario_storage.specs.inside.Shown.{IsGuided}
 
 -- a distribution on the grid and within the limit that can be reached
 pub record IsCandidate (file : ScenarioFile) (limit : ℕ) (ds : List (Option ℕ)) : Type 0 where
@@ -78,7 +79,7 @@ abbrev pub HasTop : ScenarioFile → ℕ → List Entry → Type 0
 HasTop file limit es = (e : Entry) × Contains es e × (1 ≤ e.num) × BoundsAll file limit e.num e.den
 
 -- where a search stands that has these distributions taken off, and whose levels before the floor are taken in: from the
--- corner it has made the visits that its entries are
+-- corner it has made the visits that its entries are, and it keeps blocked distributions
 pub record IsSearch (file : ScenarioFile) (limits : ScenarioLimits) (floor : ℕ) (taken : List (List (Option ℕ))) (s : Search) : Type 0 where
   pub entries : List Entry
   pub known : AreKnown file limits.total entries s.points.items
@@ -86,6 +87,7 @@ pub record IsSearch (file : ScenarioFile) (limits : ScenarioLimits) (floor : ℕ
   pub is_corner : IsCorner (shared_channels file) corner
   pub bounds : s.levels.bounds ≡ record { total = limits.total; distributions = limits.distributions }
   pub frontier : IsFrontier (shared_channels file) corner floor (visits_of entries) taken s.levels
+  pub blocked : All (IsBlocked file limits.total) s.blocked.items
   pub top : s.topped ≡ true → HasTop file limits.total entries
 
 -- the same, of which all distributions are these: those of its entries, and those that are taken off

@@ -1,12 +1,13 @@
 -- The shared channels that an evaluation shows.
 use Rattle.std.specs.Prelude.{◌≡◌, ℕ, suc, ◌<◌, ◌/◌, ◌%◌, ◌⊎◌, ◌↔◌, All, Contains, Bool, true, false, Option, None, Some, List, [], ◌∷◌, length, slice_get, slice_index, slice_index_or}
+use Rattle.sd_base.specs.declared.tables.GraphFile.{GraphFile}
 use Rattle.sd_base.specs.declared.tables.ScenarioFile.{ScenarioFile}
 use Rattle.sd_base.specs.declared.tables.ScenarioRow.{ScenarioRow}
 use Rattle.sd_base.specs.declared.tables.SharedRow.{SharedRow}
 use Rattle.sd_base.specs.declared.tables.StateRow.{StateRow}
 use Rattle.sd_base.specs.Net.{Net, channel_at}
 use Rattle.sd_base.specs.Schedules.{Needs}
-use Rattle.sd_base.specs.Untimed.{CanFire, IsLive}
+use Rattle.sd_base.specs.Untimed.{CanFire, IsEnd, IsLive}
 use Rattle.storage.specs.Distributions.{capacity_at}
 use Rattle.token_matrix.specs.Stamps.{first_of}
 use Rattle.automaton.specs.declared.graph.Edge.{Edge}
@@ -15,10 +16,9 @@ use Rattle.entry_ways.specs.declared.marking.EntryPlace.{EntryPlace}
 use Rattle.entry_ways.specs.WayMarks.{HasWay, IsLongestWay, IsOnSome}
 use Rattle.bounded_scenarios.specs.BoundedFiles.{bounded_file, bounded_graph}
 use Rattle.bounded_scenarios.specs.StorageRates.{RunsOn, bounded_net}
-use Rattle.bounded_scenarios.specs.ScenarioGuides.{IsSpaceFor, IsWayOf}
+use Rattle.bounded_scenarios.specs.ScenarioGuides.{IsHeldUp, IsInGuide, IsSpaceFor, IsWayOf}
 use Rattle.bounded_scenarios.specs.ShownSpaces.{IsShownBlocked, ShowsWays}
-use Rattle.scenario_storage.specs.inside.Levels.{IsGuided}
-use Rattle.scenario_storage.specs.inside.Ratings.{IsScenarioAt}
+use Rattle.scenario_storage.specs.inside.Ratings.{IsScenarioAt, RunBefore}
 
 -- by shared channel the number of its free space, where it has a capacity; the first one is n
 abbrev pub spaces_from : ℕ → List (Option ℕ) → List (Option ℕ)
@@ -44,10 +44,20 @@ pub record WaitsFor (net bounded : Net) (v : ℕ → ℕ) (i : ℕ) : Type 0 whe
 abbrev pub IsWaitedFor : Net → Net → List (Option ℕ) → (ℕ → ℕ) → ℕ → Type 0
 IsWaitedFor net bounded spaces v c = (i : ℕ) × HasSpace spaces c i × WaitsFor net bounded v i
 
--- the channels are guided, and show that a scenario can't complete its round
+-- channel c is in the guide of a distribution, and has a capacity
+abbrev pub IsGuided : ScenarioFile → List (Option ℕ) → ℕ → Type 0
+IsGuided file ds c = IsInGuide file ds c × ((k : ℕ) × (capacity_at ds c ≡ Some k))
+
+-- after v firings of a scenario, free space of shared channel c holds up an actor
+abbrev pub IsHeldUpOn : ScenarioFile → List (Option ℕ) → GraphFile → List ℕ → (ℕ → ℕ) → ℕ → Type 0
+IsHeldUpOn file ds g gamma v c = (row : SharedRow) × (slice_get file.shared c ≡ Some row) × IsHeldUp file ds g gamma v row.name × ((k : ℕ) × (capacity_at ds c ≡ Some k))
+
+-- the channels are those whose free space holds up an actor where the first scenario ends that can't complete its round
 pub record AreShownBlocked (file : ScenarioFile) (ds : List (Option ℕ)) (shown : List ℕ) : Type 0 where
-  pub guided : (c : ℕ) → Contains shown c → IsGuided file ds c
   pub shows : IsShownBlocked file ds shown
+  pub first : RunBefore file ds shows.place
+  pub ends : IsEnd (bounded_net file.shared ds shows.row.graph shows.gamma) shows.counts
+  pub held : (c : ℕ) → Contains shown c → IsHeldUpOn file ds shows.row.graph shows.gamma shows.counts c
   pub stops : ¬ RunsOn file ds shows.row
 
 -- what stands for a state past the last one

@@ -53,6 +53,7 @@ returns-clause-search c = λ rest all of.
     (c.in_ok-lead_on.ensures.frontier (shared_channels file) s.corner (visits_of s.entries) rest s.frontier (sym c.requires.total) rises) in
     taken-in-of file plan.limits can c.args.total ds r best c.requires.rated.2 c.requires.total rest old s c.requires.rated.1 _ _ refl c.lead_on.ensures.same frontier
     (c.in_ok-offer.ensures.known file plan.limits.total s.entries best (offered file plan.limits can c.args.total ds r best c.requires.rated.2 c.requires.total rest old s c.requires.rated.1))
+    (c.in_ok-offer.ensures.blocked file plan.limits.total s.entries best (offered file plan.limits can c.args.total ds r best c.requires.rated.2 c.requires.total rest old s c.requires.rated.1) s.blocked)
     c.is_topped-search.ensures all of.1
 
 pub returns-clause-off : goal.returns-clause-off

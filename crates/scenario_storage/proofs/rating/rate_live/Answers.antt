@@ -57,5 +57,5 @@ returns c =
       lowest = w.least;
     } in
     live-rated file c.args.plan.now.limits.total c.requires.plan.bounded ds c.requires.fits c.args.best _ live-bounds spaceless-bounds c.requires.live.all.runs graph g.timed worst.cycle (w.shows (bounded_file file ds) g.timed) w.critical
-    (subst (λ (ks : List ℕ). AreShownLive file ds graph ks c.in_ok-enlarge.enlarge) c.as_slice.ensures c.in_ok-enlarge.ensures)
+    (subst (λ (ks : List ℕ). AreShownLive file ds graph ks c.in_ok-enlarge.enlarge) c.as_slice.ensures c.in_ok-enlarge.ensures) refl
     (kept-shows file ds worst.rate c.args.best kept c.if_above.result shows c.if_above.ensures)
