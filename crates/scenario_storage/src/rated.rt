@@ -7,6 +7,7 @@ use automaton::TimedGraph;
 use scenario_rate::Worst;
 use sd_base::{Fraction, NoMemory, Rows, SharedRow};
 use std::alloc::{AllocError, AllocFailed};
+use thiserror::Error;
 
 /// The worst rate of a distribution, the shared channels on which more room could raise it, whether it was evaluated and is
 /// blocked, and what shows the rate, where that is above the best one of less storage; else it is no point's.
@@ -28,10 +29,12 @@ pub(crate) struct Witness {
 }
 
 /// Why a distribution has no rate here.
-#[derive(Clone, Copy, PartialEq, Eq)]
+#[derive(Clone, Copy, Debug, PartialEq, Eq, Error)]
 pub(crate) enum RateError {
     /// Its timed graph has more edges than are allowed.
+    #[error("the edges pass their limit")]
     Edges,
+    #[error("out of memory")]
     NoMemory,
 }
 
