@@ -1,6 +1,6 @@
 ghost use Rattle.std.specs.Prelude.{◌≡◌, ◌↔◌, ℕ, ◌+◌, ◌-◌, ◌^◌, ◌<◌, ◌≤◌, IfSome, IsTrue, MatchOption, OnOk, length, set, slice_index, slice_index_or};
 ghost use Rattle.std.proofs.Props.{props};
-ghost use Rattle.sd_base.specs.Ranges.{TOKEN_BOUND};
+ghost use Rattle.sd_base.specs.Ranges.{RUN_START_BOUND, TOKEN_BOUND};
 ghost use Rattle.sd_base.specs.Net.{channel_at, phase_entry};
 ghost use Rattle.firing.specs.declared.sums.Port.TheVariants.{Made};
 ghost use Rattle.firing.specs.Wiring.{PutsTokens};
@@ -39,7 +39,7 @@ impl<F: Firing> DueActor<'_, F> {
     #[inline(always)]
     pub(crate) fn end_firings(&self, state: &mut ActorState, tokens: &mut Tokens)
         requires tokens { length tokens.old ≡ length (F.net self.now.net.now).channels }
-        requires few { state.old.ended + length state.old.running ≤ 2 ^ 32 }
+        requires few { state.old.ended + length state.old.running ≤ RUN_START_BOUND }
         requires small { (i : ℕ) → i < length (F.net self.now.net.now).channels → slice_index tokens.old i ≤ TOKEN_BOUND }
         ensures ended { EndsOne self.now.moment state.old state.new }
         ensures puts { PutsTokens (F.net self.now.net.now) self.now.actor state.old.ended (state.new.ended - state.old.ended) tokens.old tokens.new }
@@ -55,7 +55,7 @@ impl<F: Firing> DueActor<'_, F> {
     /// Puts the tokens of firings, of which the first has number `from`, on the actor's own channel and the others out of it.
     fn put_all(&self, tokens: &mut Tokens, from: u64, firings: u64)
         requires tokens { length tokens.old ≡ length (F.net self.now.net.now).channels }
-        requires few { from + firings ≤ 2 ^ 32 }
+        requires few { from + firings ≤ RUN_START_BOUND }
         requires small { (i : ℕ) → i < length (F.net self.now.net.now).channels → slice_index tokens.old i ≤ TOKEN_BOUND }
         ensures puts { PutsTokens (F.net self.now.net.now) self.now.actor from firings tokens.old tokens.new }
         ensures long { length tokens.new ≡ length tokens.old }

@@ -2,7 +2,8 @@
 //!
 //! An engine borrows the net, and makes its wiring or borrows it, so that engines of one net can share one. A wiring depends on
 //! the ends of the channels alone, so an engine that is set back keeps its own for each net with the same ends.
-ghost use Rattle.std.specs.Prelude.{◌≡◌, ◌↔◌, IsTrue, ◌+◌, ◌^◌, ◌<◌, ◌≤◌, ◌⊎◌, ℕ, length, IfOk, IfErr, OnErr, OnOk};
+ghost use Rattle.std.specs.Prelude.{◌≡◌, ◌↔◌, IsTrue, ◌+◌, ◌<◌, ◌≤◌, ◌⊎◌, ℕ, length, IfOk, IfErr, OnErr, OnOk};
+ghost use Rattle.sd_base.specs.Ranges.{RUN_START_BOUND};
 ghost use Rattle.sd_base.specs.Schedules.{count_of};
 ghost use Rattle.sd_base.specs.SelfTimed.{earliest, shape_at, starts_by};
 ghost use Rattle.selftimed.specs.inside.Plans.{Plans};
@@ -75,7 +76,7 @@ pub struct Engine<'a, F: Firing> {
     actors: Vec<ActorState>,
     tokens: Tokens,
     event_queue: EventQueue,
-    ghost few: { most ≤ 2 ^ 32 },
+    ghost few: { most ≤ RUN_START_BOUND },
     ghost wired: { IsWiringOf (F.net net.now) (wiring_in wiring) },
     ghost rated: { AreRates (F.net net.now) rates.items },
     ghost ported: { StillPorts stage (F.net net.now) ports } by { Prim.hlevel props },
@@ -108,7 +109,7 @@ impl<F: Firing> Drop for Engine<'_, F> {
 impl<'a, F: Firing> Engine<'a, F> {
     /// An engine that stands before the first event. Cost: linear in the actors and channels of the net.
     pub fn new(alloc: Global, net: &'a F, most: u64) -> Result<Engine<'a, F>, NoMemory>
-        requires { most ≤ 2 ^ 32 }
+        requires { most ≤ RUN_START_BOUND }
         ensures net { IfOk result (λ e. e.net.now ≡ net.now) }
         ensures stage { IfOk result (λ e. e.stage ≡ Stage.Fresh) }
         ensures moment { IfOk result (λ e. e.moment ≡ 0) }
@@ -125,7 +126,7 @@ impl<'a, F: Firing> Engine<'a, F> {
         wired: &Wired<'a, F>,
         most: u64,
     ) -> Result<Engine<'a, F>, NoMemory>
-        requires { most ≤ 2 ^ 32 }
+        requires { most ≤ RUN_START_BOUND }
         ensures net { IfOk result (λ e. e.net.now ≡ wired.now.net.now) }
         ensures stage { IfOk result (λ e. e.stage ≡ Stage.Fresh) }
         ensures moment { IfOk result (λ e. e.moment ≡ 0) }
@@ -140,7 +141,7 @@ impl<'a, F: Firing> Engine<'a, F> {
         wiring: EngineWiring<'a>,
         most: u64,
     ) -> Result<Engine<'a, F>, NoMemory>
-        requires most { most ≤ 2 ^ 32 }
+        requires most { most ≤ RUN_START_BOUND }
         requires wired { IsWiringOf (F.net net.now) (wiring_in wiring) }
         ensures net { IfOk result (λ e. e.net.now ≡ net.now) }
         ensures stage { IfOk result (λ e. e.stage ≡ Stage.Fresh) }
@@ -183,7 +184,7 @@ impl<'a, F: Firing> Engine<'a, F> {
     /// other tokens. It allocates nothing but for running firings. Cost: linear in the actors and channels of the net.
     pub fn restart(&mut self, alloc: Global, net: &'a F, most: u64) -> Result<(), NoMemory>
         requires alike { AreAlike (F.net net.now) (F.net self.old.net.now) }
-        requires most { most ≤ 2 ^ 32 }
+        requires most { most ≤ RUN_START_BOUND }
         ensures net { OnOk result (self.new.net.now ≡ net.now) }
         ensures stage { OnOk result (self.new.stage ≡ Stage.Fresh) }
         ensures moment { OnOk result (self.new.moment ≡ 0) }

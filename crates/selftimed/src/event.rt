@@ -2,7 +2,7 @@
 //!
 //! An event tells who started. The engine lists the actors of which firings started, so what keeps the starts looks at
 //! these and not at all actors.
-ghost use Rattle.std.specs.Prelude.{◌≡◌, ℕ, false, ◌^◌, ◌<◌, ◌≤◌, length, IfOk, OnOk, MatchBool};
+ghost use Rattle.std.specs.Prelude.{◌≡◌, ℕ, false, ◌<◌, ◌≤◌, length, IfOk, OnOk, MatchBool};
 ghost use Rattle.std.proofs.Props.{props};
 ghost use Rattle.std.specs.Bool.{OnTrue};
 ghost use Rattle.selftimed.specs.inside.Actors.{started_in, ended_in, touched_in, lacking_in, LacksAt, EndsAll, Stand, Counted, StartedAll, CanOverrun, HaveStarted, IsFirstEnd};
@@ -11,7 +11,7 @@ ghost use Rattle.selftimed.specs.inside.PortRates.{AreRates};
 ghost use Rattle.selftimed.specs.inside.Ports.{ArePorts};
 ghost use Rattle.selftimed.specs.inside.Stands.{IsFresh, Stands, Begins};
 ghost use Rattle.selftimed.specs.Moves.{AreStarters, Overruns};
-ghost use Rattle.sd_base.specs.Ranges.{MOMENT_BOUND};
+ghost use Rattle.sd_base.specs.Ranges.{MOMENT_BOUND, RUN_START_BOUND};
 
 use crate::actors::ActorState;
 use crate::ends::DueActor;
@@ -31,7 +31,7 @@ pub(crate) struct Event<'a, F: Firing> {
     pub(crate) rates: &'a [Rates],
     pub(crate) moment: u64,
     pub(crate) most: u64,
-    ghost few: { most ≤ 2 ^ 32 },
+    ghost few: { most ≤ RUN_START_BOUND },
     ghost rated: { AreRates (F.net net.now) rates.now },
     ghost ported: { ArePorts (F.net net.now) ports.now } by { Prim.hlevel props },
 }

@@ -3,7 +3,8 @@
 //! What a firing asks for lies together. An engine keeps by channel the target, the rates of the first phase and the weight
 //! in a fingerprint, which a bounded net would otherwise look up by way of the channel whose space it is. Of an actor of one
 //! phase these decide all; one of more phases is asked phase by phase.
-ghost use Rattle.std.specs.Prelude.{◌≡◌, ◌+◌, ◌*◌, ◌^◌, ◌<◌, ◌≤◌, IfOk, length, slice_index};
+ghost use Rattle.std.specs.Prelude.{◌≡◌, ◌+◌, ◌*◌, ◌<◌, ◌≤◌, IfOk, length, slice_index};
+ghost use Rattle.sd_base.specs.Ranges.{RUN_START_BOUND};
 ghost use Rattle.sd_base.specs.declared.limits.TheConstants.{RATE};
 ghost use Rattle.sd_base.specs.Net.{channel_at, phase_entry, total};
 ghost use Rattle.firing.specs.Ports.{rates_at};
@@ -72,7 +73,7 @@ pub(crate) fn moved_span<F: Firing>(
 ) -> u64
     requires channel { channel < length (F.net net.now).channels }
     requires rate { rate ≡ slice_index (rates_at port (channel_at (F.net net.now) channel)) 0 }
-    requires few { from + firings ≤ 2 ^ 32 }
+    requires few { from + firings ≤ RUN_START_BOUND }
     ensures sum { total (rates_at port (channel_at (F.net net.now) channel)) from + result
         ≡ total (rates_at port (channel_at (F.net net.now) channel)) (from + firings) }
     ensures small { result ≤ firings * RATE }

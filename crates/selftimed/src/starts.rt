@@ -1,6 +1,6 @@
-ghost use Rattle.std.specs.Prelude.{◌≡◌, ℕ, ◌+◌, ◌-◌, ◌*◌, ◌%◌, ◌^◌, ◌<◌, ◌≤◌, None, length, set, slice_index, IfOk, IfSome, OnOk, MatchOption};
+ghost use Rattle.std.specs.Prelude.{◌≡◌, ℕ, ◌+◌, ◌-◌, ◌*◌, ◌%◌, ◌<◌, ◌≤◌, None, length, set, slice_index, IfOk, IfSome, OnOk, MatchOption};
 ghost use Rattle.std.proofs.Props.{props};
-ghost use Rattle.sd_base.specs.Ranges.{MOMENT_BOUND};
+ghost use Rattle.sd_base.specs.Ranges.{MOMENT_BOUND, RUN_START_BOUND};
 ghost use Rattle.sd_base.specs.Net.{channel_at};
 ghost use Rattle.sd_base.specs.Schedules.{phases_at, time_of};
 ghost use Rattle.firing.specs.declared.sums.Port.TheVariants.{Taken};
@@ -54,7 +54,7 @@ impl<F: Firing> Turn<'_, F> {
         tokens: &mut Tokens,
     ) -> Result<Option<u64>, NoMemory>
         requires tokens { length tokens.old ≡ length (F.net self.now.net.now).channels }
-        requires few { state.old.started + room ≤ 2 ^ 32 }
+        requires few { state.old.started + room ≤ RUN_START_BOUND }
         requires runs { length state.old.running ≤ state.old.started }
         ensures long { length tokens.new ≡ length tokens.old }
         ensures starts { IfOk result (λ o. MatchOption o (Overfills (F.net self.now.net.now) tokens.old self.now.actor state.old.started room)
@@ -84,7 +84,7 @@ impl<F: Firing> Turn<'_, F> {
         running: &mut Running,
     ) -> Result<Option<Begun>, NoMemory>
         requires tokens { length tokens.old ≡ length (F.net self.now.net.now).channels }
-        requires few { from + room ≤ 2 ^ 32 }
+        requires few { from + room ≤ RUN_START_BOUND }
         requires runs { length running.old ≤ from }
         ensures long { length tokens.new ≡ length tokens.old }
         ensures starts { IfOk result (λ o. MatchOption o (Overfills (F.net self.now.net.now) tokens.old self.now.actor from room)
@@ -108,7 +108,7 @@ impl<F: Firing> Turn<'_, F> {
     ) -> Result<Option<Begun>, NoMemory>
         requires single { phases_at (F.net self.now.net.now) self.now.actor ≡ 1 }
         requires tokens { length tokens.old ≡ length (F.net self.now.net.now).channels }
-        requires few { from + room ≤ 2 ^ 32 }
+        requires few { from + room ≤ RUN_START_BOUND }
         requires runs { length running.old ≤ from }
         ensures long { length tokens.new ≡ length tokens.old }
         ensures starts { IfOk result (λ o. MatchOption o (Overfills (F.net self.now.net.now) tokens.old self.now.actor from room)
@@ -131,7 +131,7 @@ impl<F: Firing> Turn<'_, F> {
     fn fed_together(&self, tokens: &[u64], most: u64) -> Begun
         requires single { phases_at (F.net self.now.net.now) self.now.actor ≡ 1 }
         requires tokens { length tokens.now ≡ length (F.net self.now.net.now).channels }
-        requires few { most ≤ 2 ^ 33 }
+        requires few { most ≤ 2 * RUN_START_BOUND }
         ensures within { result.firings ≤ most }
         ensures feeds { (k : ℕ) → Feeds (F.net self.now.net.now) tokens.now self.now.actor k result.firings }
         ensures lacks { result.firings < most → FeedsNoMore (F.net self.now.net.now) tokens.now self.now.actor result.firings result.lacking }
@@ -201,7 +201,7 @@ impl<F: Firing> Turn<'_, F> {
     ) -> Result<Option<Begun>, NoMemory>
         requires others { self.now.own ≡ None }
         requires tokens { length tokens.old ≡ length (F.net self.now.net.now).channels }
-        requires few { from + room ≤ 2 ^ 32 }
+        requires few { from + room ≤ RUN_START_BOUND }
         requires runs { length running.old ≤ from }
         ensures long { length tokens.new ≡ length tokens.old }
         ensures starts { IfOk result (λ o. MatchOption o (Overfills (F.net self.now.net.now) tokens.old self.now.actor from room)
@@ -243,7 +243,7 @@ impl<F: Firing> Turn<'_, F> {
     /// Takes the tokens of firings, of which the first has number `from`, off the actor's own channel and the others into it.
     fn take_all(&self, tokens: &mut Tokens, from: u64, firings: u64)
         requires tokens { length tokens.old ≡ length (F.net self.now.net.now).channels }
-        requires few { from + firings ≤ 2 ^ 32 }
+        requires few { from + firings ≤ RUN_START_BOUND }
         requires enough { Feeds (F.net self.now.net.now) tokens.old self.now.actor from firings }
         ensures takes { TakesTokens (F.net self.now.net.now) self.now.actor from firings tokens.old tokens.new }
         ensures long { length tokens.new ≡ length tokens.old }
@@ -272,7 +272,7 @@ impl<F: Firing> Turn<'_, F> {
     #[inline(always)]
     fn push_ends(&self, running: &mut Running, from: u64, firings: u64) -> Result<(), NoMemory>
         requires some { 0 < firings }
-        requires few { from + firings ≤ 2 ^ 32 }
+        requires few { from + firings ≤ RUN_START_BOUND }
         requires runs { length running.old ≤ from }
         requires alike { (k : ℕ) → k < firings → time_of (F.net self.now.net.now) self.now.actor (from + k) ≡ time_of (F.net self.now.net.now) self.now.actor from }
         ensures { OnOk result (AddsEnds (F.net self.now.net.now) self.now.actor self.now.moment from firings running.old running.new) }

@@ -1,5 +1,6 @@
 -- Where the actors stand in an execution.
-use Rattle.std.specs.Prelude.{◌≡◌, ℕ, ◌+◌, ◌-◌, ◌^◌, ◌≤◌, ◌<◌, ◌⊎◌, Bool, true, false, List, [], Option, All, length, drop, slice_index, slice_index_or, ◌==◌, nat_eq}
+use Rattle.std.specs.Prelude.{◌≡◌, ℕ, ◌+◌, ◌-◌, ◌≤◌, ◌<◌, ◌⊎◌, Bool, true, false, List, [], Option, All, length, drop, slice_index, slice_index_or, ◌==◌, nat_eq}
+use Rattle.sd_base.specs.Ranges.{RUN_START_BOUND}
 use Rattle.std.specs.List.{list_any, sum_by, IsDistinct}
 use Rattle.sd_base.specs.Net.{Net, channel_at, phase_entry}
 use Rattle.sd_base.specs.Schedules.{Needs}
@@ -95,7 +96,7 @@ pub record EndsAll (net : Net) (moment : ℕ) (old new : List ActorState) : Type
 pub record Stand (net : Net) (actors : List ActorState) (tokens : List ℕ) : Type 0 where
   pub long : length actors ≡ length net.times
   pub counts : (a : ℕ) → a < length net.times → ended_in actors a + length (running_in actors a) ≡ started_in actors a
-  pub few : (a : ℕ) → a < length net.times → started_in actors a ≤ 2 ^ 32
+  pub few : (a : ℕ) → a < length net.times → started_in actors a ≤ RUN_START_BOUND
   pub level : IsLevel net (started_in actors) (ended_in actors) tokens
 
 -- n firings of an actor start at a moment, and no more can, for want of tokens on the channel that is noted
