@@ -1,8 +1,9 @@
 """What cores gain on the decoder's trade-off with a certificate, and on levels of the same sizes that are nothing but arithmetic.
 
-With a certificate a trade-off is explored by levels; without one two distributions at most are evaluated side by side. A pair is a run on one core, each in turn, and a run on all. A row is the least and the middle wall-clock time on one core and on all,
-and the middle of what the pairs gain. The sizes of the levels are read off a certificate of the program; a job of theirs, which the
-program `bench` runs, takes as long as the row says. The longer the jobs, the less threads cost beside them.
+With a certificate a trade-off is explored by levels; without one two distributions at most are evaluated side by side. A pair is a
+run on one core, each in turn, and a run on all. A row is the least and the middle wall-clock time on one core and on all, and the
+middle of what the pairs gain. The sizes of the levels are read off a certificate of the program; a job of theirs, which the program
+`bench` runs, takes as long as the row says. The longer the jobs, the less threads cost beside them.
 """
 import argparse
 import itertools
